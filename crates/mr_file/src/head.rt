@@ -1,0 +1,154 @@
+ghost use Rattle.std.specs.Prelude.{◌≡◌, ◌+◌, ◌<◌, ◌≤◌, ◌^◌, [], None, length, MatchResult};
+ghost use Rattle.mr_set.specs.Subsets.{choose};
+ghost use Rattle.mr_text.specs.Format.{IsFirstFault, StandsFor};
+ghost use Rattle.mr_file.specs.Reading.{Names, listing, from_sets, from_count, from_rank, from_elements, whole_file};
+
+use crate::fault::{FileFault, Measure};
+use crate::line::{fixed_line, keyed_line};
+use crate::listed::Listed;
+use crate::set_line::set_line;
+use mr_set::{ELEMENTS, Set, binomial};
+use std::alloc::Global;
+
+/// The numbers and sets of a file, what follows it, and the number of the next line.
+pub fn read_file<'a>(
+    alloc: Global,
+    bytes: &'a [u8],
+    line_number: u32,
+) -> Result<(Listed, &'a [u8], u32), FileFault>
+    requires { line_number + length bytes.now < 2 ^ 32 }
+    ensures { MatchResult result (λ x. StandsFor whole_file line_number bytes.now (listing x.0) x.1.now x.2) (Names (IsFirstFault whole_file line_number bytes.now)) }
+{
+    match fixed_line(bytes, line_number, b"matroid 1") {
+        Err(e) => Err(e),
+        Ok(rest) => read_elements(alloc, rest, line_number + 1),
+    }
+}
+
+// From the line with the number of elements on.
+fn read_elements<'a>(
+    alloc: Global,
+    bytes: &'a [u8],
+    line_number: u32,
+) -> Result<(Listed, &'a [u8], u32), FileFault>
+    requires { line_number + length bytes.now < 2 ^ 32 }
+    ensures { MatchResult result (λ x. StandsFor from_elements line_number bytes.now (listing x.0) x.1.now x.2) (Names (IsFirstFault from_elements line_number bytes.now)) }
+{
+    match keyed_line(bytes, line_number, b"elements ") {
+        Err(e) => Err(e),
+        Ok(found) => {
+            if found.0 > ELEMENTS {
+                return Err(FileFault::Size {
+                    line: line_number,
+                    what: Measure::Elements,
+                });
+            }
+            read_rank(alloc, found.1, line_number + 1, found.0)
+        }
+    }
+}
+
+// From the line with the rank on.
+fn read_rank<'a>(
+    alloc: Global,
+    bytes: &'a [u8],
+    line_number: u32,
+    elements: u32,
+) -> Result<(Listed, &'a [u8], u32), FileFault>
+    requires numbers { line_number + length bytes.now < 2 ^ 32 }
+    requires elements { elements ≤ 32 }
+    ensures { MatchResult result (λ x. StandsFor (from_rank elements) line_number bytes.now (listing x.0) x.1.now x.2) (Names (IsFirstFault (from_rank elements) line_number bytes.now)) }
+{
+    match keyed_line(bytes, line_number, b"rank ") {
+        Err(e) => Err(e),
+        Ok(found) => {
+            if found.0 > elements {
+                return Err(FileFault::Size {
+                    line: line_number,
+                    what: Measure::Rank,
+                });
+            }
+            match binomial(elements, found.0) {
+                None => Err(FileFault::Size {
+                    line: line_number,
+                    what: Measure::Sets,
+                }),
+                Some(most) => {
+                    read_count(alloc, found.1, line_number + 1, elements, found.0, most)
+                }
+            }
+        }
+    }
+}
+
+// From the line with the number of nonbases on.
+fn read_count<'a>(
+    alloc: Global,
+    bytes: &'a [u8],
+    line_number: u32,
+    elements: u32,
+    rank: u32,
+    most: u32,
+) -> Result<(Listed, &'a [u8], u32), FileFault>
+    requires numbers { line_number + length bytes.now < 2 ^ 32 }
+    requires elements { elements ≤ 32 }
+    requires most { most ≡ choose elements rank }
+    ensures { MatchResult result (λ x. StandsFor (from_count elements rank) line_number bytes.now (listing x.0) x.1.now x.2) (Names (IsFirstFault (from_count elements rank) line_number bytes.now)) }
+{
+    match keyed_line(bytes, line_number, b"nonbases ") {
+        Err(e) => Err(e),
+        Ok(found) => {
+            if found.0 > most {
+                return Err(FileFault::Size {
+                    line: line_number,
+                    what: Measure::Nonbases,
+                });
+            }
+            read_sets(alloc, found.1, line_number + 1, elements, rank, found.0)
+        }
+    }
+}
+
+// From the first set on.
+fn read_sets<'a>(
+    alloc: Global,
+    bytes: &'a [u8],
+    line_number: u32,
+    elements: u32,
+    rank: u32,
+    count: u32,
+) -> Result<(Listed, &'a [u8], u32), FileFault>
+    requires numbers { line_number + length bytes.now < 2 ^ 32 }
+    requires elements { elements ≤ 32 }
+    ensures { MatchResult result (λ x. StandsFor (from_sets elements rank count [] None) line_number bytes.now (listing x.0) x.1.now x.2) (Names (IsFirstFault (from_sets elements rank count [] None) line_number bytes.now)) }
+{
+    let mut nonbases: Vec<Set> = Vec::new(alloc);
+    let mut last = None;
+    let mut rest = bytes;
+    let mut at = line_number;
+    for _ in 0..count {
+        match set_line(rest, at, elements, rank, last) {
+            Err(e) => return Err(e),
+            Ok(found) => match nonbases.push(found.0) {
+                Err(_) => return Err(FileFault::Memory),
+                Ok(()) => {
+                    last = Some(found.0);
+                    rest = found.1;
+                    at += 1;
+                }
+            },
+        }
+    }
+    match fixed_line(rest, at, b"end") {
+        Err(e) => Err(e),
+        Ok(after) => Ok((
+            Listed {
+                elements,
+                rank,
+                nonbases,
+            },
+            after,
+            at + 1,
+        )),
+    }
+}

@@ -1,0 +1,45 @@
+-- What holds of every matrix.
+use Rattle.std.specs.Prelude.{◌≡◌, ◌≢◌, ◌↔◌, ℕ, ◌<◌, List, length, Contains}
+use Rattle.mr_field.specs.Gf.{mul, order}
+use Rattle.mr_set.specs.Elements.{IsSet, with_element}
+use Rattle.mr_set.specs.Subsets.{IsSetOf}
+use Rattle.mr_set.specs.Matroid.{Presentation, IsMatroid}
+use Rattle.mr_linear.specs.Matrix.{Grid, IsGrid, height, entry, AreDependent, AreIndependent}
+use Rattle.mr_linear.specs.Operations.{AreEquivalent}
+use Rattle.mr_linear.specs.Representation.{Represents, RepresentsBases, HasIdentity}
+
+-- operations keep the independence of every set of columns
+abbrev pub OperationsKeepIndependence : Type 0
+OperationsKeepIndependence = (a b : Grid) → IsGrid a → AreEquivalent a b → (x : List ℕ) → AreIndependent a x ↔ AreIndependent b x
+
+-- more columns than there are rows are dependent
+abbrev pub ManyColumnsAreDependent : Type 0
+ManyColumnsAreDependent = (a : Grid) (x : List ℕ) → IsSet a.cols x → height a < length x → AreDependent a x
+
+-- an independent set is augmented from a larger one
+abbrev pub IndependentSetsAreAugmented : Type 0
+IndependentSetsAreAugmented =
+    (a : Grid) (x y : List ℕ) → IsSet a.cols x → IsSet a.cols y → AreIndependent a x → AreIndependent a y → length x < length y →
+    (e : ℕ) × Contains y e × ¬ (Contains x e) × AreIndependent a (with_element e x)
+
+-- a matrix that agrees with a matroid on the sets of the rank's size represents it
+abbrev pub BasesDecide : Type 0
+BasesDecide = (m : Presentation) (a : Grid) → IsMatroid m → RepresentsBases a m → Represents a m
+
+-- each entry of b is that of a, times a factor of its row and one of its column, and no factor is 0
+pub record DiffersByFactors (a b : Grid) : Type 0 where
+  pub row : ℕ → ℕ
+  pub col : ℕ → ℕ
+  pub row_element : (i : ℕ) → (row i < order a.field) × (row i ≢ 0)
+  pub col_element : (j : ℕ) → (col j < order a.field) × (col j ≢ 0)
+  pub entries : (i j : ℕ) → i < height a → j < a.cols → entry b i j ≡ mul a.field (row i) (mul a.field (col j) (entry a i j))
+
+-- two equivalent matrices that are the identity at the same columns differ by factors
+abbrev pub StandardMatricesDifferByFactors : Type 0
+StandardMatricesDifferByFactors =
+    (a b : Grid) (x : List ℕ) → IsGrid a → IsSetOf a.cols (height a) x → HasIdentity x a → HasIdentity x b → AreEquivalent a b → DiffersByFactors a b
+
+-- where as many columns as there are rows are independent, operations lead to a matrix that is the identity there
+abbrev pub IndependentColumnsReduce : Type 0
+IndependentColumnsReduce =
+    (a : Grid) (x : List ℕ) → IsGrid a → IsSetOf a.cols (height a) x → AreIndependent a x → (b : Grid) × AreEquivalent a b × HasIdentity x b

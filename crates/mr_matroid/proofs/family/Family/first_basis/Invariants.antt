@@ -1,0 +1,13 @@
+use Rattle.std.proofs.Common.{ℕ, List}
+use Rattle.mr_set.specs.Subsets.{IsSetOf}
+use Rattle.mr_set.specs.Enumeration.{weight}
+use Rattle.mr_matroid.specs.Family.{presentation}
+use Rattle.mr_matroid.proofs.Walk.{Seen}
+use Rattle.mr_matroid.proofs.Failures.{NoneFrom, NoneFromPair, NoBasisAt}
+use Rattle.mr_matroid.proofs.family.Family.first_basis.Given as goal
+
+abbrev pub invariant-bases : goal.invariant-bases
+invariant-bases l = IsSetOf l.self.elements l.self.rank l.b × Seen l.self.elements l.self.rank l.b (NoBasisAt (presentation l.self))
+
+abbrev pub decreases-bases : goal.decreases-bases
+decreases-bases l = weight l.b

@@ -1,0 +1,14 @@
+use Rattle.std.proofs.Common.{ℕ, List}
+use Rattle.mr_set.specs.Subsets.{IsSetOf}
+use Rattle.mr_set.specs.Enumeration.{weight}
+use Rattle.mr_matroid.specs.Family.{presentation}
+use Rattle.mr_matroid.proofs.Walk.{Seen}
+use Rattle.mr_matroid.proofs.Elements.{NotAt, IsAt}
+use Rattle.mr_matroid.proofs.Ranks.{SharesAtMost, Reached}
+use Rattle.mr_matroid.proofs.family.Family.is_loop.Given as goal
+
+abbrev pub invariant-bases : goal.invariant-bases
+invariant-bases l = IsSetOf l.self.elements l.self.rank l.b × Seen l.self.elements l.self.rank l.b (NotAt (presentation l.self) l.e)
+
+abbrev pub decreases-bases : goal.decreases-bases
+decreases-bases l = weight l.b

@@ -1,0 +1,43 @@
+-- The first exchange that fails.
+use Rattle.std.specs.Prelude.{◌≡◌, ℕ, ◌+◌, ◌<◌, ◌≤◌, List, length, Contains}
+use Rattle.mr_set.specs.Elements.{IsSubset, meet, with_element, without_element}
+use Rattle.mr_set.specs.Subsets.{IsSetOf, IsBefore, choose}
+use Rattle.mr_set.specs.Matroid.{Presentation, IsPresentation, IsBasis, FailsExchange}
+use Rattle.mr_set.specs.declared.TheConstants.{ELEMENTS, SETS}
+
+-- a matroid of this size can be held
+pub record IsWithinLimits (m : Presentation) : Type 0 where
+  pub elements : m.elements ≤ ELEMENTS
+  pub sets : choose m.elements m.rank ≤ SETS
+
+-- each set of the rank's size is listed
+abbrev pub HasNoBasis : Presentation → Type 0
+HasNoBasis m = (x : List ℕ) → ¬ (IsBasis m x)
+
+-- some element of b2 alone can take the place of x in b1
+abbrev pub CanReplace : Presentation → List ℕ → List ℕ → ℕ → Type 0
+CanReplace m b1 b2 x = (y : ℕ) × Contains b2 y × (¬ (Contains b1 y)) × IsBasis m (with_element y (without_element x b1))
+
+-- the exchange fails, and none does with an earlier b1, or with this b1 and an earlier b2, or with these and a lesser x
+pub record IsFirstFailure (m : Presentation) (b1 b2 : List ℕ) (x : ℕ) : Type 0 where
+  pub fails : FailsExchange m b1 b2 x
+  pub first : (c1 c2 : List ℕ) (y : ℕ) → FailsExchange m c1 c2 y → ¬ (IsBefore c1 b1)
+  pub second : (c2 : List ℕ) (y : ℕ) → FailsExchange m b1 c2 y → ¬ (IsBefore c2 b2)
+  pub element : (y : ℕ) → FailsExchange m b1 b2 y → x ≤ y
+
+-- the same for one b1, and for one b1 and b2
+pub record IsFirstSecond (m : Presentation) (b1 b2 : List ℕ) (x : ℕ) : Type 0 where
+  pub fails : FailsExchange m b1 b2 x
+  pub second : (c2 : List ℕ) (y : ℕ) → FailsExchange m b1 c2 y → ¬ (IsBefore c2 b2)
+  pub element : (y : ℕ) → FailsExchange m b1 b2 y → x ≤ y
+
+pub record IsFirstElement (m : Presentation) (b1 b2 : List ℕ) (x : ℕ) : Type 0 where
+  pub fails : FailsExchange m b1 b2 x
+  pub element : (y : ℕ) → FailsExchange m b1 b2 y → x ≤ y
+
+-- no basis has the element, and each has it
+abbrev pub IsLoop : Presentation → ℕ → Type 0
+IsLoop m e = (b : List ℕ) → IsBasis m b → ¬ (Contains b e)
+
+abbrev pub IsColoop : Presentation → ℕ → Type 0
+IsColoop m e = (b : List ℕ) → IsBasis m b → Contains b e

@@ -1,0 +1,9 @@
+pub mod Bits
+pub mod Members
+pub mod Tests
+pub mod Below
+pub mod Sorted
+pub mod Lexicographic
+pub mod Choose
+pub mod Steps
+pub mod Counting

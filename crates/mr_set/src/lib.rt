@@ -1,0 +1,18 @@
+//! Sets of elements, their order, and matroids as numbers and lists.
+#![tactic(auto)]
+
+mod order;
+mod set;
+mod sizes;
+mod subsets;
+
+pub use order::{elements, is_before};
+pub use set::Set;
+pub use sizes::binomial;
+pub use subsets::{first_subset, next_subset};
+
+/// Elements are numbers below this.
+pub const ELEMENTS: u32 = 32;
+
+/// The most sets of one size that a matroid may have.
+pub const SETS: u32 = 5000;

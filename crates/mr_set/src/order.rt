@@ -1,0 +1,31 @@
+ghost use Rattle.std.specs.Prelude.{◌≡◌, ◌↔◌, IsTrue};
+ghost use Rattle.mr_set.specs.Subsets.{IsBefore};
+
+use crate::ELEMENTS;
+use crate::set::Set;
+use arrayvec::ArrayVec;
+use std::cmp::Ordering;
+
+/// The elements in increasing order.
+pub fn elements(s: Set) -> ArrayVec<u32, 32>
+    ensures { result.items ≡ s }
+{
+    let _mask = s.mask();
+    let mut list: ArrayVec<u32, 32> = ArrayVec::new();
+    for e in 0..ELEMENTS {
+        if s.has(e) {
+            list.push(e);
+        }
+    }
+    list
+}
+
+/// Whether the one set stands before the other.
+pub fn is_before(x: Set, y: Set) -> bool
+    ensures { IsTrue result ↔ IsBefore x y }
+{
+    match elements(x).as_slice().cmp(&elements(y).as_slice()) {
+        Ordering::Less => true,
+        Ordering::Equal | Ordering::Greater => false,
+    }
+}

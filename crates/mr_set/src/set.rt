@@ -1,0 +1,116 @@
+ghost use Rattle.std.specs.Prelude.{◌≡◌, ◌↔◌, ◌<◌, ◌^◌, [], length, IsTrue, Contains, SomeIff};
+ghost use Rattle.mr_set.specs.Elements.{IsSet, IsSubset, elements_below, mask_of, with_element, without_element, union, meet, minus};
+
+use crate::ELEMENTS;
+use std::marker::Model;
+
+/// A set of elements below 32. Contracts see it as the increasing list of its elements.
+#[derive(Clone, Copy, Debug, PartialEq, Eq)]
+pub struct Set {
+    mask: u64,
+}
+
+impl Model for Set {
+    ghost use Rattle.std.specs.Prelude.{ℕ, ◌<◌, ◌^◌, List};
+    ghost use Rattle.mr_set.specs.Elements.{elements_below, mask_of};
+    ghost use Rattle.mr_set.specs.Masks.{mask_again};
+
+    ghost Value = { List ℕ };
+
+    ghost view = { λ s. elements_below 32 s.mask };
+
+    ghost invariant = { λ s. s.mask < 2 ^ 32 };
+
+    ghost inverse = { λ x. record { mask = mask_of x } };
+
+    ghost inverse_ok = { λ s h. mask_again s.mask h };
+}
+
+impl Set {
+    pub fn empty() -> Set
+        ensures { result ≡ [] }
+    {
+        Set { mask: 0 }
+    }
+
+    /// The set whose elements are the places of the bits.
+    pub fn of_mask(mask: u64) -> Option<Set>
+        ensures { SomeIff result (mask < 2 ^ ELEMENTS) (elements_below ELEMENTS mask) }
+    {
+        if mask < 1 << 32 {
+            Some(Set { mask })
+        } else {
+            None
+        }
+    }
+
+    pub fn mask(&self) -> u64
+        ensures value { result ≡ mask_of self.now }
+        ensures elements { self.now ≡ elements_below ELEMENTS result }
+        ensures set { IsSet ELEMENTS self.now }
+        ensures bound { result < 2 ^ ELEMENTS }
+    {
+        self.mask
+    }
+
+    pub fn has(&self, e: u32) -> bool
+        requires { e < ELEMENTS }
+        ensures { IsTrue result ↔ Contains self.now e }
+    {
+        self.mask >> e & 1 == 1
+    }
+
+    pub fn with(&self, e: u32) -> Set
+        requires { e < ELEMENTS }
+        ensures { result ≡ with_element e self.now }
+    {
+        Set {
+            mask: self.mask | 1 << e,
+        }
+    }
+
+    pub fn without(&self, e: u32) -> Set
+        requires { e < ELEMENTS }
+        ensures { result ≡ without_element e self.now }
+    {
+        Set {
+            mask: self.mask & !(1 << e),
+        }
+    }
+
+    pub fn union(&self, o: Set) -> Set
+        ensures { result ≡ union self.now o }
+    {
+        Set {
+            mask: self.mask | o.mask,
+        }
+    }
+
+    pub fn meet(&self, o: Set) -> Set
+        ensures { result ≡ meet self.now o }
+    {
+        Set {
+            mask: self.mask & o.mask,
+        }
+    }
+
+    pub fn minus(&self, o: Set) -> Set
+        ensures { result ≡ minus self.now o }
+    {
+        Set {
+            mask: self.mask & !o.mask,
+        }
+    }
+
+    pub fn within(&self, o: Set) -> bool
+        ensures { IsTrue result ↔ IsSubset self.now o }
+    {
+        self.mask & !o.mask == 0
+    }
+
+    pub fn len(&self) -> u32
+        ensures { result ≡ length self.now }
+    {
+        self.mask.count_ones()
+    }
+}
