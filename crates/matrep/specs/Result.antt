@@ -1,0 +1,50 @@
+-- Which exit and text may stand together for the bytes that were read.
+use Rattle.std.specs.Prelude.{◌≡◌, ◌≢◌, ◌⊎◌, ℕ, ◌<◌, ◌≤◌, List, [], length}
+use Rattle.mr_set.specs.Matroid.{Presentation}
+use Rattle.mr_matroid.specs.Exchange.{HasNoBasis, IsFirstFailure}
+use Rattle.mr_text.specs.Format.{grammar, size, IsTextOf, IsFirstFaultOf}
+use Rattle.mr_file.specs.File.{IsFileOf}
+use Rattle.mr_file.specs.Reading.{whole_file}
+use Rattle.mr_linear.specs.Matrix.{Grid}
+use Rattle.mr_linear.specs.Representation.{IsAnswer}
+use Rattle.matrep.specs.Texts.{answer_text, log_text, refusal_text}
+use Rattle.matrep.specs.Binary.{IsFirstFailing}
+use Rattle.matrep.specs.declared.TheConstants.{FILE_BYTES}
+use Rattle.matrep.specs.declared.outcome.Exit.{Exit}
+use Rattle.matrep.specs.declared.outcome.Exit.TheVariants.{Done, Negative, Refused, Usage, Memory, ReadFault, WriteFault}
+use Rattle.matrep.specs.declared.outcome.Fault.{Fault}
+use Rattle.matrep.specs.declared.outcome.Fault.TheVariants.{TooLong, Grammar, Size, NoBasis, Exchange}
+
+-- there are representations over the field with two elements, and the text lists the answer
+abbrev pub ListsAnswer : Presentation → List ℕ → Type 0
+ListsAnswer m text = (answer : List Grid) × IsAnswer m 2 answer × (answer ≢ []) × (text ≡ answer_text 2 answer)
+
+-- there is none, and the text is a refutation that ends with the first set that fails
+abbrev pub Refutes : Presentation → List ℕ → Type 0
+Refutes m text = (x : List ℕ) × IsAnswer m 2 [] × IsFirstFailing m x × (text ≡ log_text 2 m x)
+
+-- why lines that are not too many bytes are refused: the first fault, or else no basis, or else the first exchange that fails
+abbrev pub IsAtFault : List ℕ → Fault → Type 0
+IsAtFault bytes TooLong = ⊥
+IsAtFault bytes (Grammar line) = IsFirstFaultOf whole_file bytes (grammar line)
+IsAtFault bytes (Size line what) = IsFirstFaultOf whole_file bytes (size line what)
+IsAtFault bytes NoBasis = (m : Presentation) × IsTextOf whole_file bytes m × HasNoBasis m
+IsAtFault bytes (Exchange b1 b2 x) = (m : Presentation) × IsTextOf whole_file bytes m × IsFirstFailure m b1 b2 x
+
+-- the exit and the text for bytes that are not too many; the bytes of a matroid's file are solved, and others refused
+abbrev pub AllowsFile : List ℕ → Exit → List ℕ → Type 0
+AllowsFile bytes Done text = (m : Presentation) × IsFileOf bytes m × ListsAnswer m text
+AllowsFile bytes Negative text = (m : Presentation) × IsFileOf bytes m × Refutes m text
+AllowsFile bytes (Refused fault) text = IsAtFault bytes fault × (text ≡ refusal_text fault)
+AllowsFile bytes (Usage word) text = ⊥
+AllowsFile bytes Memory text = ⊥
+AllowsFile bytes ReadFault text = ⊥
+AllowsFile bytes WriteFault text = ⊥
+
+-- too many bytes are refused, whatever they are
+abbrev pub IsTooLong : List ℕ → Exit → List ℕ → Type 0
+IsTooLong bytes exit text = (FILE_BYTES < length bytes) × (exit ≡ Refused TooLong) × (text ≡ refusal_text TooLong)
+
+-- the exit and the text that may stand together for these bytes
+abbrev pub Allows : List ℕ → Exit → List ℕ → Type 0
+Allows bytes exit text = IsTooLong bytes exit text ⊎ ((length bytes ≤ FILE_BYTES) × AllowsFile bytes exit text)

@@ -1,0 +1,55 @@
+ghost use Rattle.std.specs.Prelude.{◌≡◌, ◌<◌, ◌++◌, ◌∷◌, [], codes, map, OnOk, slice_index_or};
+ghost use Rattle.mr_field.specs.Gf.{order};
+ghost use Rattle.mr_linear.specs.Matrix.{height};
+ghost use Rattle.mr_text.specs.Text.{numbers_text, text_of_lines};
+ghost use Rattle.matrep.specs.Texts.{matrix_lines};
+
+use mr_linear::Matrix;
+use mr_text::Text;
+use std::alloc::AllocError;
+
+/// Appends the block of a matrix.
+pub fn put_matrix(a: &Matrix, out: &mut Text) -> Result<(), AllocError>
+    ensures { OnOk result (out.new ≡ out.old ++ text_of_lines (matrix_lines a.now)) }
+{
+    put_size(a, out)?;
+    put_rows(a, out)?;
+    out.put(b"end\n")
+}
+
+// The line before the rows.
+fn put_size(a: &Matrix, out: &mut Text) -> Result<(), AllocError>
+    ensures { OnOk result (out.new ≡ out.old ++ ((codes "matrix " ++ numbers_text (order a.now.field ∷ height a.now ∷ a.now.cols ∷ [])) ++ 10 ∷ [])) }
+{
+    out.put(b"matrix ")?;
+    out.put_number(u32::from(a.field().order()))?;
+    out.put(b" ")?;
+    out.put_number(a.rows())?;
+    out.put(b" ")?;
+    out.put_number(a.cols())?;
+    out.put(b"\n")
+}
+
+// A line for each row.
+fn put_rows(a: &Matrix, out: &mut Text) -> Result<(), AllocError>
+    ensures { OnOk result (out.new ≡ out.old ++ text_of_lines (map numbers_text a.now.rows)) }
+{
+    for i in 0..a.rows() {
+        put_row(a, i, out)?;
+    }
+    Ok(())
+}
+
+// The entries of a row with single spaces between them.
+fn put_row(a: &Matrix, i: u32, out: &mut Text) -> Result<(), AllocError>
+    requires { i < height a.now }
+    ensures { OnOk result (out.new ≡ out.old ++ (numbers_text (slice_index_or a.now.rows i []) ++ 10 ∷ [])) }
+{
+    for j in 0..a.cols() {
+        if j > 0 {
+            out.put(b" ")?;
+        }
+        out.put_number(u32::from(a.get(i, j)))?;
+    }
+    out.put(b"\n")
+}
