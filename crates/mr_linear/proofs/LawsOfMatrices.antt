@@ -1,8 +1,7 @@
 -- The laws over matrices, from those over entries and tests.
-use Rattle.std.proofs.Common.{ℕ, ◌-◌, ◌<◌, ◌≤◌, ◌≡◌, ◌≢◌, Bool, true, List, length, get_or, refl, sym, subst, ◌∙◌, ⊎_elim, arith}
+use Rattle.std.proofs.Common.{ℕ, ◌-◌, ◌<◌, ◌≤◌, ◌≡◌, ◌≢◌, Bool, List, length, get_or, refl, sym, subst, ◌∙◌, ⊎_elim, arith}
 use Rattle.std.specs.Prelude.{Contains}
 use Rattle.std.proofs.lemmas.Bool.{cases_lt, both_ways}
-use Rattle.std.proofs.lemmas.List.Elements.{Contains-get_or}
 use Rattle.std.proofs.lemmas.Map.Keys.{below_from_sorted}
 use Rattle.mr_field.specs.Gf.{Gf, mul, norm, inv, order}
 use Rattle.mr_field.proofs.Laws.{norm-lt, norm-element, mul-inv, mul_assoc, mul_comm, one-mul, mul-norm_left, inv-lt, mul-zero}
@@ -22,6 +21,7 @@ use Rattle.mr_linear.proofs.Agreement.{OnlyZero-within, extend}
 use Rattle.mr_linear.proofs.Grids.{SameShape, height-grid_of, entry-grid_of, entry-lt}
 use Rattle.mr_linear.proofs.Operations.{SameZeros, Equivalent, entries_after_all}
 use Rattle.mr_linear.proofs.Standard.{IsIdentityAt, standard-factors}
+use Rattle.mr_linear.proofs.Places.{places, identity-at, place-lt, place-element}
 use Rattle.mr_linear.proofs.Existence.{reduced, Reduced}
 use Rattle.mr_linear.proofs.Leads.{led, leads-from, leads-shape, leads-grid, leads-zeros, only_zero-grid}
 
@@ -60,7 +60,7 @@ basis-from_independent m x s i =
     subst (IsBasis m) (sym (same_sets x b s.set.increasing basis.0.set.increasing same)) basis
 
 -- a basis is independent
-basis-independent : (m : Presentation) (b : List ℕ) → IsBasis m b → IsIndependent m b
+pub basis-independent : (m : Presentation) (b : List ℕ) → IsBasis m b → IsIndependent m b
 basis-independent m b h = (b, h, λ e c. c)
 
 -- agreement on the sets of the rank's size is enough
@@ -104,20 +104,6 @@ bases-decide m a h r = record { fits = r.fits; agrees = λ x s. (there x s, back
           subset-from_within x y (λ e t. is_element-set_of a.cols q.0 e (element-lt a.cols x sx e t) ∙ q.1 e t),
         )
 
--- the places of a set of r columns
-places : List ℕ → ℕ → ℕ
-places x k = get_or x k 0
-
--- the identity at these places
-identity-at : (x : List ℕ) (a : Grid) → length x ≡ height a → HasIdentity x a → IsIdentityAt (height a) (places x) (entry a)
-unfolding places
-identity-at x a e h i k l m = h i k l (omega arith)
-
--- the places are columns
-place-lt : (n r : ℕ) (x : List ℕ) → IsSetOf n r x → (k : ℕ) → k < r → places x k < n
-unfolding places
-place-lt n r x s k l = element-lt n x s.set (get_or x k 0) (is_element-from_Contains x _ (Contains-get_or x k 0 (let e = s.size in omega arith)))
-
 -- the factors of two matrices that are the identity at the same places
 pub differ-by-factors : (a b : Grid) (x : List ℕ) → IsGrid a → IsSetOf a.cols (height a) x → HasIdentity x a → HasIdentity x b → AreEquivalent a b → DiffersByFactors a b
 differ-by-factors a b x g s ha hb e = record {
@@ -160,13 +146,11 @@ differ-by-factors a b x g s ha hb e = record {
 
 -- independent columns are brought to the identity
 pub columns-reduce : (a : Grid) (x : List ℕ) → IsGrid a → IsSetOf a.cols (height a) x → AreIndependent a x → (b : Grid) × AreEquivalent a b × HasIdentity x b
-unfolding places
 columns-reduce a x g s ind =
     let apart : (k p : ℕ) → k < p → p < height a → places x k ≢ places x p =
     λ k p l m e. (let size = s.size in let lt = below_from_sorted x k p 0 s.set.increasing l (omega arith) in omega arith) in
-    let member : (k : ℕ) → k < height a → is_element x (places x k) ≡ true = λ k l. is_element-from_Contains x _ (Contains-get_or x k 0 (let e = s.size in omega arith)) in
     let r : Reduced a.field (height a) a.cols (height a) (places x) (entry a) =
-    reduced a.field (height a) a.cols (places x) (is_element x) (entry a) (place-lt a.cols (height a) x s) member apart (only_zero-grid a x ind) (height a) (omega arith) in
+    reduced a.field (height a) a.cols (places x) (is_element x) (entry a) (place-lt a.cols (height a) x s) (place-element a.cols (height a) x s) apart (only_zero-grid a x ind) (height a) (omega arith) in
     let e : Equivalent a.field (height a) a.cols (entry a) r.entries = r.equivalent in
     let b : Grid = led a e.operations in (
       b,

@@ -1,10 +1,10 @@
 -- What holds of every matrix.
-use Rattle.std.specs.Prelude.{◌≡◌, ◌≢◌, ◌↔◌, ℕ, ◌<◌, List, length, Contains}
+use Rattle.std.specs.Prelude.{◌≡◌, ◌≢◌, ◌↔◌, ℕ, ◌<◌, List, length, slice_index, Contains}
 use Rattle.mr_field.specs.Gf.{mul, order}
-use Rattle.mr_set.specs.Elements.{IsSet, with_element}
+use Rattle.mr_set.specs.Elements.{IsSet, with_element, without_element}
 use Rattle.mr_set.specs.Subsets.{IsSetOf}
-use Rattle.mr_set.specs.Matroid.{Presentation, IsMatroid}
-use Rattle.mr_linear.specs.Matrix.{Grid, IsGrid, height, entry, AreDependent, AreIndependent}
+use Rattle.mr_set.specs.Matroid.{Presentation, IsMatroid, IsBasis}
+use Rattle.mr_linear.specs.Matrix.{Grid, IsGrid, height, entry, AreDependent, AreIndependent, PartIsIndependent}
 use Rattle.mr_linear.specs.Operations.{AreEquivalent}
 use Rattle.mr_linear.specs.Representation.{Represents, RepresentsBases, HasIdentity}
 
@@ -43,3 +43,14 @@ StandardMatricesDifferByFactors =
 abbrev pub IndependentColumnsReduce : Type 0
 IndependentColumnsReduce =
     (a : Grid) (x : List ℕ) → IsGrid a → IsSetOf a.cols (height a) x → AreIndependent a x → (b : Grid) × AreEquivalent a b × HasIdentity x b
+
+-- in a representation that is the identity at a basis, the entry in row i and a column outside of the basis is not 0 exactly where that column can take the place of the basis's element i
+abbrev pub EntriesAreExchanges : Type 0
+EntriesAreExchanges =
+    (m : Presentation) (a : Grid) (b : List ℕ) (i e : ℕ) → Represents a m → IsBasis m b → HasIdentity b a → i < m.rank → e < m.elements → ¬ (Contains b e) →
+    (entry a i e ≢ 0) ↔ IsBasis m (with_element e (without_element (slice_index b i) b))
+
+-- where a matrix is the identity at b, the columns of a set are independent exactly where its part has independent columns
+abbrev pub PartsDecide : Type 0
+PartsDecide =
+    (a : Grid) (b x : List ℕ) → IsGrid a → IsSetOf a.cols (height a) b → HasIdentity b a → IsSet a.cols x → AreIndependent a x ↔ PartIsIndependent a b x

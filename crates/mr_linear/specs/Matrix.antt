@@ -1,8 +1,8 @@
 -- Matrices over a finite field, by their rows.
-use Rattle.std.specs.Prelude.{◌≡◌, ℕ, zero, suc, ◌+◌, ◌<◌, ◌≤◌, List, [], ◌∷◌, length, All, slice_index, slice_index_or, flat_map, ◌==◌, ◌&&◌, if◌then◌else◌}
+use Rattle.std.specs.Prelude.{◌≡◌, ℕ, zero, suc, ◌+◌, ◌<◌, ◌≤◌, List, [], ◌∷◌, length, All, Bool, not, slice_index, slice_index_or, flat_map, ◌==◌, ◌&&◌, if◌then◌else◌}
 use Rattle.std.specs.declared.cmp.Ordering.{Ordering}
 use Rattle.mr_field.specs.Gf.{Gf, order}
-use Rattle.mr_set.specs.Elements.{IsSet, is_element}
+use Rattle.mr_set.specs.Elements.{IsSet, is_element, minus}
 use Rattle.mr_set.specs.Subsets.{IsSetOf, list_cmp}
 use Rattle.mr_linear.specs.Columns.{Entries, every, Dependent}
 
@@ -50,6 +50,18 @@ AreDependent a x = Dependent a.field (height a) every a.cols (entry a) (is_eleme
 -- the columns of a set are independent
 abbrev pub AreIndependent : Grid → List ℕ → Type 0
 AreIndependent a x = ¬ (AreDependent a x)
+
+-- the rows of the elements of b outside of x
+abbrev pub rows_outside : List ℕ → List ℕ → ℕ → Bool
+rows_outside b x i = not (is_element x (slice_index b i))
+
+-- the part of the matrix with the rows of b outside of x and the columns of x outside of b has dependent columns
+abbrev pub PartIsDependent : Grid → List ℕ → List ℕ → Type 0
+PartIsDependent a b x = Dependent a.field (height a) (rows_outside b x) a.cols (entry a) (is_element (minus x b))
+
+-- it has independent columns
+abbrev pub PartIsIndependent : Grid → List ℕ → List ℕ → Type 0
+PartIsIndependent a b x = ¬ (PartIsDependent a b x)
 
 -- k is the greatest size of a set of independent columns
 pub record IsColumnRank (a : Grid) (k : ℕ) : Type 0 where

@@ -30,8 +30,11 @@ abbrev pub HasIdentity : List ℕ → Grid → Type 0
 HasIdentity b a = (i k : ℕ) → i < height a → k < length b → entry a i (slice_index b k) ≡ (if i == k then 1 else 0)
 
 -- the columns at the first basis are the identity, in order
-abbrev pub IsStandard : Presentation → Grid → Type 0
-IsStandard m a = (b : List ℕ) → IsFirstBasis m b → HasIdentity b a
+pub record IsStandard (m : Presentation) (a : Grid) : Type 0 where
+  pub basis : List ℕ
+  pub first : IsFirstBasis m basis
+  pub fits : FitsMatroid m a
+  pub identity : HasIdentity basis a
 
 -- standard, and no smaller standard matrix is equivalent
 pub record IsChosen (m : Presentation) (a : Grid) : Type 0 where
