@@ -1,6 +1,9 @@
 pub mod Words
 pub mod Texts
 pub mod Binary
+pub mod Filling
 pub mod Result
+pub mod Refusals
 pub mod Headline
 pub mod Status
+pub mod Pieces

@@ -23,7 +23,17 @@ ListsAnswer m text = (answer : List Grid) × IsAnswer m 2 answer × (answer ≢ 
 abbrev pub Refutes : Presentation → List ℕ → Type 0
 Refutes m text = (x : List ℕ) × IsAnswer m 2 [] × IsFirstFailing m x × (text ≡ log_text 2 m x)
 
--- why lines that are not too many bytes are refused: the first fault, or else no basis, or else the first exchange that fails
+-- the exit and the text for a matroid
+abbrev pub Solves : Presentation → Exit → List ℕ → Type 0
+Solves m Done text = ListsAnswer m text
+Solves m Negative text = Refutes m text
+Solves m (Refused fault) text = ⊥
+Solves m (Usage word) text = ⊥
+Solves m Memory text = ⊥
+Solves m ReadFault text = ⊥
+Solves m WriteFault text = ⊥
+
+-- why a text is no file of a matroid: its first fault, or else no basis, or else the first exchange that fails
 abbrev pub IsAtFault : List ℕ → Fault → Type 0
 IsAtFault bytes TooLong = ⊥
 IsAtFault bytes (Grammar line) = IsFirstFaultOf whole_file bytes (grammar line)
@@ -31,20 +41,15 @@ IsAtFault bytes (Size line what) = IsFirstFaultOf whole_file bytes (size line wh
 IsAtFault bytes NoBasis = (m : Presentation) × IsTextOf whole_file bytes m × HasNoBasis m
 IsAtFault bytes (Exchange b1 b2 x) = (m : Presentation) × IsTextOf whole_file bytes m × IsFirstFailure m b1 b2 x
 
--- the exit and the text for bytes that are not too many; the bytes of a matroid's file are solved, and others refused
+-- the exit and the text for a text: the file of a matroid is solved, and another text is refused
 abbrev pub AllowsFile : List ℕ → Exit → List ℕ → Type 0
-AllowsFile bytes Done text = (m : Presentation) × IsFileOf bytes m × ListsAnswer m text
-AllowsFile bytes Negative text = (m : Presentation) × IsFileOf bytes m × Refutes m text
 AllowsFile bytes (Refused fault) text = IsAtFault bytes fault × (text ≡ refusal_text fault)
-AllowsFile bytes (Usage word) text = ⊥
-AllowsFile bytes Memory text = ⊥
-AllowsFile bytes ReadFault text = ⊥
-AllowsFile bytes WriteFault text = ⊥
+AllowsFile bytes exit text = (m : Presentation) × IsFileOf bytes m × Solves m exit text
 
 -- too many bytes are refused, whatever they are
 abbrev pub IsTooLong : List ℕ → Exit → List ℕ → Type 0
 IsTooLong bytes exit text = (FILE_BYTES < length bytes) × (exit ≡ Refused TooLong) × (text ≡ refusal_text TooLong)
 
--- the exit and the text that may stand together for these bytes
+-- the exit and the text that may stand together for the bytes that were read
 abbrev pub Allows : List ℕ → Exit → List ℕ → Type 0
 Allows bytes exit text = IsTooLong bytes exit text ⊎ ((length bytes ≤ FILE_BYTES) × AllowsFile bytes exit text)

@@ -1,4 +1,6 @@
-ghost use Rattle.std.specs.Prelude.{◌≡◌, IfOk};
+ghost use Rattle.std.specs.Prelude.{◌≡◌, ◌∷◌, [], IfOk};
+ghost use Rattle.mr_field.specs.Gf.{gf2};
+ghost use Rattle.matrep.specs.Texts.{answer_text, log_text};
 ghost use Rattle.matrep.specs.Result.{Solves};
 
 use crate::binary::{filled, first_failing};

@@ -1,5 +1,6 @@
-ghost use Rattle.std.specs.Prelude.{◌≡◌, ◌≤◌, length, IfOk, false};
-ghost use Rattle.matrep.specs.Result.{AllowsFile, IsAtFault};
+ghost use Rattle.std.specs.Prelude.{◌≡◌, ◌≤◌, length, IfOk, MatchOption, false};
+ghost use Rattle.matrep.specs.Result.{AllowsFile};
+ghost use Rattle.matrep.specs.Refusals.{as_file_fault};
 
 use crate::FILE_BYTES;
 use crate::answer::answer;
