@@ -4,9 +4,9 @@ use Rattle.mr_field.specs.Gf.{mul, order}
 use Rattle.mr_set.specs.Elements.{IsSet, with_element, without_element}
 use Rattle.mr_set.specs.Subsets.{IsSetOf}
 use Rattle.mr_set.specs.Matroid.{Presentation, IsMatroid, IsBasis}
-use Rattle.mr_linear.specs.Matrix.{Grid, IsGrid, height, entry, AreDependent, AreIndependent, PartIsIndependent}
+use Rattle.mr_linear.specs.Matrix.{Grid, IsGrid, height, entry, AreDependent, AreIndependent, PartIsIndependent, IsColumnRank}
 use Rattle.mr_linear.specs.Operations.{AreEquivalent}
-use Rattle.mr_linear.specs.Representation.{Represents, RepresentsBases, HasIdentity}
+use Rattle.mr_linear.specs.Representation.{Represents, RepresentsBases, HasIdentity, IsAnswer}
 
 -- operations keep the independence of every set of columns
 abbrev pub OperationsKeepIndependence : Type 0
@@ -54,3 +54,27 @@ EntriesAreExchanges =
 abbrev pub PartsDecide : Type 0
 PartsDecide =
     (a : Grid) (b x : List ℕ) → IsGrid a → IsSetOf a.cols (height a) b → HasIdentity b a → IsSet a.cols x → AreIndependent a x ↔ PartIsIndependent a b x
+
+-- each matrix is equivalent to itself
+abbrev pub EquivalenceIsReflexive : Type 0
+EquivalenceIsReflexive = (a : Grid) → AreEquivalent a a
+
+-- equivalence goes both ways
+abbrev pub EquivalenceIsSymmetric : Type 0
+EquivalenceIsSymmetric = (a b : Grid) → IsGrid a → AreEquivalent a b → AreEquivalent b a
+
+-- matrices that are equivalent to one in between are equivalent
+abbrev pub EquivalenceIsTransitive : Type 0
+EquivalenceIsTransitive = (a b c : Grid) → AreEquivalent a b → AreEquivalent b c → AreEquivalent a c
+
+-- a matrix that is equivalent to a representation represents the same matroid
+abbrev pub EquivalentMatricesRepresentTheSame : Type 0
+EquivalentMatricesRepresentTheSame = (m : Presentation) (a b : Grid) → Represents a m → AreEquivalent a b → Represents b m
+
+-- a matrix has one rank
+abbrev pub ThereIsOneRank : Type 0
+ThereIsOneRank = (a : Grid) (j k : ℕ) → IsColumnRank a j → IsColumnRank a k → j ≡ k
+
+-- a matroid has one answer over the field with q elements
+abbrev pub ThereIsOneAnswer : Type 0
+ThereIsOneAnswer = (m : Presentation) (q : ℕ) (xs ys : List Grid) → IsAnswer m q xs → IsAnswer m q ys → xs ≡ ys
