@@ -8,8 +8,8 @@ use Rattle.std.specs.declared.cmp.Ordering.{Ordering}
 use Rattle.std.specs.declared.cmp.Ordering.TheVariants.{Less, Equal, Greater}
 use Rattle.std.proofs.lemmas.Cmp.{nat_list_cmp_total}
 use Rattle.std.proofs.lemmas.Map.Text.{is_eq-slice_cmp}
-use Rattle.mr_set.specs.Subsets.{IsSetOf, IsBefore, IsNext, IsLast, list_cmp}
-use Rattle.mr_set.specs.Enumeration.{IsFrom, IsFirst, weight}
+use Rattle.mr_set.specs.Subsets.{IsSetOf, IsBefore, IsFirst, IsNext, IsLast, list_cmp}
+use Rattle.mr_set.specs.Enumeration.{IsFrom, weight}
 use Rattle.mr_set.proofs.Lexicographic.{weight_falls, from_set}
 
 -- each set of the size before s has the property

@@ -11,9 +11,9 @@ use Rattle.std.proofs.lemmas.Bool.{cases_lt, cases_eq}
 use Rattle.std.proofs.Math.Nat.{pow-le-pow_right, pow-suc}
 use Rattle.std.proofs.lemmas.Nat.{pow_pos}
 use Rattle.mr_set.specs.Elements.{with_element, numbers_below}
-use Rattle.mr_set.specs.Subsets.{IsSetOf, IsBefore, IsNext, IsLast, list_cmp}
+use Rattle.mr_set.specs.Subsets.{IsSetOf, IsBefore, IsFirst, IsNext, IsLast, list_cmp}
 use Rattle.mr_set.proofs.Members.{less_from_cmp, cmp_from_less}
-use Rattle.mr_set.specs.Enumeration.{IsFrom, run, IsNextFrom, IsLastFrom, IsFirst, weight}
+use Rattle.mr_set.specs.Enumeration.{IsFrom, run, IsNextFrom, IsLastFrom, weight}
 use Rattle.mr_set.proofs.Sorted.{all_head, all_tail, all_cons, all_none, below_all, all_above, sorted_cons, sorted_parts, sorted_none, with_front}
 
 -- lists in order, by their first numbers

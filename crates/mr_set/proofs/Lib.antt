@@ -7,3 +7,7 @@ pub mod Lexicographic
 pub mod Choose
 pub mod Steps
 pub mod Counting
+pub mod Ordered
+pub mod Listing
+pub mod Placing
+pub mod Uniqueness

@@ -1,8 +1,8 @@
--- The sets of one size whose elements begin at some number, in lexicographic order.
-use Rattle.std.specs.Prelude.{◌≡◌, ℕ, zero, suc, ◌+◌, ◌-◌, ◌^◌, ◌<◌, ◌≤◌, List, [], ◌∷◌, length, All}
+-- Words of the proofs: the sets of one size whose elements begin at some number, in lexicographic order.
+use Rattle.std.specs.Prelude.{◌≡◌, ℕ, zero, suc, ◌+◌, ◌-◌, ◌^◌, ◌<◌, ◌≤◌, List, [], ◌∷◌, ◌++◌, length, map, All}
 use Rattle.std.specs.List.Sorted.{IsStrictlySortedBy}
 use Rattle.std.specs.Ordering.{nat_cmp}
-use Rattle.mr_set.specs.Subsets.{IsSetOf, IsBefore}
+use Rattle.mr_set.specs.Subsets.{IsBefore}
 
 -- a set of elements from low on and below n
 pub record IsFrom (low n : ℕ) (x : List ℕ) : Type 0 where
@@ -26,10 +26,11 @@ pub record IsNextFrom (low n : ℕ) (x y : List ℕ) : Type 0 where
 abbrev pub IsLastFrom : ℕ → ℕ → List ℕ → Type 0
 IsLastFrom low n x = (z : List ℕ) → IsFrom low n z → length z ≡ length x → IsBefore x z → ⊥
 
--- no set of r of the first n elements comes before x
-pub record IsFirst (n r : ℕ) (x : List ℕ) : Type 0 where
-  pub subset : IsSetOf n r x
-  pub least : (z : List ℕ) → IsSetOf n r z → IsBefore z x → ⊥
+-- the sets of r elements among m from low on, in order: first those with low, then the others
+unfoldable pub sets_from : ℕ → ℕ → ℕ → List (List ℕ)
+sets_from low m zero = [] ∷ []
+sets_from low zero (suc r) = []
+sets_from low (suc m) (suc r) = map (λ x. low ∷ x) (sets_from (low + 1) m r) ++ sets_from (low + 1) m (suc r)
 
 -- a number that falls from a set to the next of its size
 unfoldable pub weight : List ℕ → ℕ

@@ -1,5 +1,7 @@
 pub mod Elements
 pub mod Subsets
+pub mod Places
 pub mod Matroid
+pub mod Laws
 pub mod Masks
 pub mod Enumeration

@@ -25,6 +25,11 @@ list_cmp = slice_cmp nat_cmp
 abbrev pub IsBefore : List ℕ → List ℕ → Type 0
 IsBefore x y = list_cmp x y ≡ Less
 
+-- no set of r of the first n elements comes before x
+pub record IsFirst (n r : ℕ) (x : List ℕ) : Type 0 where
+  pub subset : IsSetOf n r x
+  pub least : (z : List ℕ) → IsSetOf n r z → IsBefore z x → ⊥
+
 -- y is the next set after x of its size: none lies between
 pub record IsNext (n : ℕ) (x y : List ℕ) : Type 0 where
   pub subset : IsSetOf n (length x) y

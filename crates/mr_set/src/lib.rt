@@ -1,12 +1,15 @@
 //! Sets of elements, their order, and matroids as numbers and lists.
 #![tactic(auto)]
 
+pub mod laws;
 mod order;
+mod places;
 mod set;
 mod sizes;
 mod subsets;
 
 pub use order::{elements, is_before};
+pub use places::{place_of, subset_at};
 pub use set::Set;
 pub use sizes::binomial;
 pub use subsets::{first_subset, next_subset};

@@ -1,4 +1,4 @@
-ghost use Rattle.std.specs.Prelude.{◌≤◌, SomeIff};
+ghost use Rattle.std.specs.Prelude.{◌≡◌, ◌≤◌, SomeIff};
 ghost use Rattle.mr_set.specs.Subsets.{choose};
 
 use crate::{ELEMENTS, SETS};
@@ -9,23 +9,18 @@ pub fn binomial(n: u32, r: u32) -> Option<u32>
     requires size { r ≤ ELEMENTS }
     ensures { SomeIff result (choose n r ≤ SETS) (choose n r) }
 {
-    if r == 0 {
-        return Some(1);
+    let count = combinations(n, r);
+    if count <= SETS { Some(count) } else { None }
+}
+
+// How many sets of `r` elements there are among `n`.
+pub(crate) fn combinations(n: u32, r: u32) -> u32
+    requires { n ≤ ELEMENTS }
+    ensures { result ≡ choose n r }
+{
+    let mut count = 1_u64;
+    for k in 0..r {
+        count = count * u64::from(n.saturating_sub(k)) / (u64::from(k) + 1);
     }
-    if n < r {
-        return Some(0);
-    }
-    match binomial(n - 1, r - 1) {
-        None => None,
-        Some(with) => match binomial(n - 1, r) {
-            None => None,
-            Some(without) => {
-                if with + without <= SETS {
-                    Some(with + without)
-                } else {
-                    None
-                }
-            }
-        },
-    }
+    count as u32
 }

@@ -1,5 +1,5 @@
 use Rattle.std.proofs.Common.{sym, subst, ◌∙◌, List, ℕ}
-use Rattle.mr_set.specs.Enumeration.{IsFirst}
+use Rattle.mr_set.specs.Subsets.{IsFirst}
 use Rattle.mr_set.proofs.Lexicographic.{first_of_all, run-numbers_below}
 use Rattle.mr_set.proofs.subsets.first_subset.Goals as goal
 
