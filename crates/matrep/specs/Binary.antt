@@ -1,10 +1,10 @@
 -- Over the field with two elements each entry of a representation beside the identity is known. Which sets then fail.
-use Rattle.std.specs.Prelude.{◌≡◌, ◌⊎◌, ◌↔◌, ℕ, ◌<◌, not, List, Contains, slice_index, Bool}
+use Rattle.std.specs.Prelude.{◌≡◌, ◌⊎◌, ◌↔◌, ℕ, ◌<◌, List, Contains, slice_index}
 use Rattle.mr_field.specs.Gf.{gf2}
-use Rattle.mr_set.specs.Elements.{is_element, with_element, without_element, minus}
+use Rattle.mr_set.specs.Elements.{with_element, without_element}
 use Rattle.mr_set.specs.Subsets.{IsSetOf, IsBefore}
 use Rattle.mr_set.specs.Matroid.{Presentation, IsBasis, IsFirstBasis}
-use Rattle.mr_linear.specs.Matrix.{Grid, height, entry, PartIsDependent, PartIsIndependent}
+use Rattle.mr_linear.specs.Matrix.{Grid, entry, PartIsDependent, PartIsIndependent}
 use Rattle.mr_linear.specs.Representation.{FitsMatroid, HasIdentity}
 
 -- The columns at b are the identity. The entry of row i and an element e outside of b is 1 where e can take the place of
@@ -16,10 +16,10 @@ pub record IsFilled (m : Presentation) (b : List ℕ) (a : Grid) : Type 0 where
   pub edges : (i e : ℕ) → i < m.rank → e < m.elements → ¬ (Contains b e)
       → ((entry a i e ≡ 1) ↔ IsBasis m (with_element e (without_element (slice_index b i) b)))
 
--- In the part with the rows of b outside of x and the columns of x outside of b, the columns of a nonbasis x are
--- independent, or those of a basis dependent.
+-- In the part with the rows of b outside of x and the columns of x outside of b, the columns are independent though x is
+-- no basis, or dependent though it is one.
 abbrev pub SetFails : Presentation → List ℕ → Grid → List ℕ → Type 0
-SetFails m b a x = (Contains m.nonbases x × PartIsIndependent a b x) ⊎ (IsBasis m x × PartIsDependent a b x)
+SetFails m b a x = ((¬ (IsBasis m x)) × PartIsIndependent a b x) ⊎ (IsBasis m x × PartIsDependent a b x)
 
 -- x is the least set of the rank's size that fails
 pub record IsFirstToFail (m : Presentation) (b : List ℕ) (a : Grid) (x : List ℕ) : Type 0 where

@@ -1,12 +1,13 @@
 -- Which exit and text may stand together for the bytes that were read.
 use Rattle.std.specs.Prelude.{◌≡◌, ◌≢◌, ◌⊎◌, ℕ, ◌<◌, ◌≤◌, List, [], length}
+use Rattle.mr_field.specs.Gf.{order}
 use Rattle.mr_set.specs.Matroid.{Presentation}
 use Rattle.mr_matroid.specs.Exchange.{HasNoBasis, IsFirstFailure}
 use Rattle.mr_text.specs.Format.{grammar, size, IsTextOf, IsFirstFaultOf}
 use Rattle.mr_file.specs.File.{IsFileOf}
 use Rattle.mr_file.specs.Reading.{whole_file}
 use Rattle.mr_linear.specs.Matrix.{Grid}
-use Rattle.mr_linear.specs.Representation.{IsAnswer}
+use Rattle.mr_linear.specs.Representation.{Represents, IsAnswer}
 use Rattle.matrep.specs.Texts.{answer_text, log_text, refusal_text}
 use Rattle.matrep.specs.Binary.{IsFirstFailing}
 use Rattle.matrep.specs.declared.TheConstants.{FILE_BYTES}
@@ -19,9 +20,13 @@ use Rattle.matrep.specs.declared.outcome.Fault.TheVariants.{TooLong, Grammar, Si
 abbrev pub ListsAnswer : Presentation → List ℕ → Type 0
 ListsAnswer m text = (answer : List Grid) × IsAnswer m 2 answer × (answer ≢ []) × (text ≡ answer_text 2 answer)
 
+-- no matrix over the field with q elements represents the matroid
+abbrev pub HasNoRepresentation : Presentation → ℕ → Type 0
+HasNoRepresentation m q = (a : Grid) → order a.field ≡ q → ¬ (Represents a m)
+
 -- there is none, and the text is a refutation that ends with the first set that fails
 abbrev pub Refutes : Presentation → List ℕ → Type 0
-Refutes m text = (x : List ℕ) × IsAnswer m 2 [] × IsFirstFailing m x × (text ≡ log_text 2 m x)
+Refutes m text = (x : List ℕ) × HasNoRepresentation m 2 × IsAnswer m 2 [] × IsFirstFailing m x × (text ≡ log_text 2 m x)
 
 -- the exit and the text for a matroid
 abbrev pub Solves : Presentation → Exit → List ℕ → Type 0

@@ -1,5 +1,6 @@
 ghost use Rattle.std.specs.Prelude.{◌≡◌, ◌∷◌, [], IfOk};
 ghost use Rattle.mr_field.specs.Gf.{gf2};
+ghost use Rattle.mr_set.specs.Matroid.{IsMatroid};
 ghost use Rattle.matrep.specs.Texts.{answer_text, log_text};
 ghost use Rattle.matrep.specs.Result.{Solves};
 
@@ -16,7 +17,8 @@ use std::alloc::{AllocError, Global};
 
 /// The representations of the matroid over the field with two elements, or the refutation.
 pub fn answer(alloc: Global, m: &Matroid, field: Field) -> Result<Outcome, AllocError>
-    requires { field ≡ gf2 }
+    requires field { field ≡ gf2 }
+    requires matroid { IsMatroid m.now }
     ensures { IfOk result (λ o. Solves m.now o.exit o.text) }
 {
     let basis = m.first_basis();

@@ -1,4 +1,4 @@
-ghost use Rattle.std.specs.Prelude.{◌≡◌, ◌≤◌, length, IfOk, MatchOption, false};
+ghost use Rattle.std.specs.Prelude.{◌≡◌, ◌≤◌, length, IfOk, MatchOption, Some, false};
 ghost use Rattle.matrep.specs.Result.{AllowsFile};
 ghost use Rattle.matrep.specs.Refusals.{as_file_fault};
 
@@ -38,7 +38,7 @@ pub fn solve_one(
 
 // The same refusal of the input, but for want of memory.
 fn fault_of(fault: FileFault) -> Option<Fault>
-    ensures { MatchOption result (fault ≡ FileFault.Memory) (λ f. as_file_fault f ≡ fault) }
+    ensures { MatchOption result (fault ≡ FileFault.Memory) (λ f. as_file_fault f ≡ Some fault) }
 {
     match fault {
         FileFault::Grammar { line } => Some(Fault::Grammar { line }),
