@@ -1,18 +1,17 @@
 -- The order of sets of one size: the first one, the next one, and a number that falls.
-use Rattle.std.proofs.Common.{◌≡◌, ℕ, zero, suc, ◌+◌, ◌-◌, ◌*◌, ◌^◌, ◌≤◌, List, [], ◌∷◌, ◌++◌, length, refl, sym, ap, subst, ◌∙◌, arith, inl, inr, ◌⊎◌}
-use Rattle.std.specs.Prelude.{◌<◌, ◌≢◌, All}
+use Rattle.std.proofs.Common.{◌≡◌, ℕ, zero, suc, ◌+◌, ◌-◌, ◌^◌, ◌≤◌, List, [], ◌∷◌, ◌++◌, length, refl, sym, ap, subst, ◌∙◌, arith, inl, inr, ◌⊎◌}
+use Rattle.std.specs.Prelude.{◌<◌, ◌≢◌}
 use Rattle.std.specs.Ordering.{nat_cmp}
 use Rattle.std.specs.declared.cmp.Ordering.{Ordering}
 use Rattle.std.specs.declared.cmp.Ordering.TheVariants.{Less, Equal, Greater}
-use Rattle.std.specs.Cmp.Lexicographic.{slice_cmp}
 use Rattle.std.specs.Ordering.{ordering_then, ordering_reverse}
 use Rattle.std.proofs.lemmas.Cmp.{nat_cmp_total, tied_itself, nat_list_cmp_total}
-use Rattle.std.proofs.lemmas.Bool.{cases_lt, cases_eq}
+use Rattle.std.proofs.lemmas.Bool.{cases_lt}
 use Rattle.std.proofs.Math.Nat.{pow-le-pow_right, pow-suc}
 use Rattle.std.proofs.lemmas.Nat.{pow_pos}
 use Rattle.mr_set.specs.Elements.{with_element, numbers_below}
 use Rattle.mr_set.specs.Subsets.{IsSetOf, IsBefore, IsFirst, IsNext, IsLast, list_cmp}
-use Rattle.mr_set.proofs.Members.{less_from_cmp, cmp_from_less}
+use Rattle.mr_set.proofs.Members.{cmp_from_less}
 use Rattle.mr_set.specs.Enumeration.{IsFrom, run, IsNextFrom, IsLastFrom, weight}
 use Rattle.mr_set.proofs.Sorted.{all_head, all_tail, all_cons, all_none, below_all, all_above, sorted_cons, sorted_parts, sorted_none, with_front}
 

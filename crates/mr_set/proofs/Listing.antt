@@ -1,13 +1,13 @@
 -- The list of all sets of one size: its members, its order and its length.
-use Rattle.std.proofs.Common.{◌≡◌, ◌↔◌, ℕ, zero, suc, ◌+◌, ◌-◌, ◌≤◌, ◌⊎◌, List, [], ◌∷◌, ◌++◌, length, map, refl, sym, ap, subst, ◌∙◌, inl, inr, arith, length-append}
-use Rattle.std.specs.Prelude.{◌<◌, Contains}
+use Rattle.std.proofs.Common.{◌≡◌, ℕ, zero, suc, ◌+◌, List, [], ◌∷◌, length, map, refl, sym, ap, subst, ◌∙◌, inl, inr, arith, length-append}
+use Rattle.std.specs.Prelude.{Contains}
 use Rattle.std.specs.List.{AllByRecursion}
 use Rattle.std.specs.List.Sorted.{IsStrictlySortedBy}
 use Rattle.std.proofs.lemmas.Bool.{cases_eq}
 use Rattle.std.proofs.lemmas.Cmp.{nat_list_cmp_total}
 use Rattle.std.proofs.lemmas.List.{length-map}
 use Rattle.std.proofs.lemmas.List.Elements.{Contains-append_left, Contains-append_right, Contains-append_cases}
-use Rattle.mr_set.specs.Subsets.{IsSetOf, IsBefore, choose, list_cmp}
+use Rattle.mr_set.specs.Subsets.{IsBefore, choose, list_cmp}
 use Rattle.mr_set.specs.Enumeration.{IsFrom, sets_from}
 use Rattle.mr_set.specs.Places.{IsAllSets}
 use Rattle.mr_set.proofs.Lexicographic.{before_same, before_less, from_head, from_tail, from_cons, from_none, from_set, set_from}

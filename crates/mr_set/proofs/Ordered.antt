@@ -1,12 +1,11 @@
 -- Lists in strictly increasing order: places, joins, and when two of them are equal.
-use Rattle.std.proofs.Common.{◌≡◌, ◌↔◌, ℕ, zero, suc, ◌+◌, ◌≤◌, ◌⊎◌, List, [], ◌∷◌, ◌++◌, length, get_or, Some, refl, sym, ap, subst, ◌∙◌, inl, inr, arith}
-use Rattle.std.specs.Prelude.{◌<◌, All, Contains}
+use Rattle.std.proofs.Common.{◌≡◌, ◌↔◌, ℕ, zero, suc, ◌≤◌, ◌⊎◌, List, [], ◌∷◌, ◌++◌, length, get_or, Some, refl, sym, ap, subst, ◌∙◌, inl, inr, arith}
+use Rattle.std.specs.Prelude.{◌<◌, Contains}
 use Rattle.std.specs.List.{AllByRecursion, slice_get}
 use Rattle.std.specs.List.Sorted.{IsStrictlySortedBy}
 use Rattle.std.specs.Cmp.{IsTotalOrder}
-use Rattle.std.specs.Ordering.{ordering_reverse}
 use Rattle.std.specs.declared.cmp.Ordering.{Ordering}
-use Rattle.std.specs.declared.cmp.Ordering.TheVariants.{Less, Equal, Greater}
+use Rattle.std.specs.declared.cmp.Ordering.TheVariants.{Less}
 use Rattle.std.proofs.lemmas.Cmp.{tied_itself}
 use Rattle.std.proofs.lemmas.List.Elements.{Contains-get_or, recursion_from_All}
 use Rattle.std.proofs.lemmas.Map.Keys.{sorted_tail}
@@ -109,14 +108,14 @@ length-le_from_members total [] (x ∷ xs) first second within = absurd (member_
 length-le_from_members {X} {cmp} total (y ∷ ys) (x ∷ xs) first second within = elim (member_cases y ys x (within x (member_first x xs))) [
   | inl same ↦
       let rest = length-le_from_members total ys xs (sorted_tail cmp x xs first) (sorted_tail cmp y ys second) (λ z inside.
-          member_after total y ys z (subst (λ w. cmp w z ≡ Less) (sym same) (first_before cmp x xs z first inside)) (within z (member_later x xs z inside))) in
+      member_after total y ys z (subst (λ w. cmp w z ≡ Less) (sym same) (first_before cmp x xs z first inside)) (within z (member_later x xs z inside))) in
       omega arith
   | inr later ↦
       let less = first_before cmp y ys x second later in
       let rest = length-le_from_members total ys (x ∷ xs) first (sorted_tail cmp y ys second) (λ z inside.
-          member_after total y ys z (elim (member_cases x xs z inside) [
-            | inl is ↦ subst (λ w. cmp y w ≡ Less) is less
-            | inr more ↦ total.trans y x z less (first_before cmp x xs z first more)
-          ]) (within z inside)) in
+      member_after total y ys z (elim (member_cases x xs z inside) [
+        | inl is ↦ subst (λ w. cmp y w ≡ Less) is less
+        | inr more ↦ total.trans y x z less (first_before cmp x xs z first more)
+      ]) (within z inside)) in
       omega arith
 ]

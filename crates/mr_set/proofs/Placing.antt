@@ -1,18 +1,18 @@
 -- The place of a set among those of its size, by whether it has the least element.
-use Rattle.std.proofs.Common.{◌≡◌, ◌≢◌, ℕ, zero, suc, ◌+◌, ◌-◌, ◌^◌, ◌≤◌, ◌⊎◌, List, [], ◌∷◌, ◌++◌, length, get_or, Option, Some, cond, true, false, refl, sym, ap, subst, ◌∙◌, inl, inr, arith, eq-eqb, ne_eqb}
-use Rattle.std.specs.Prelude.{◌<◌, ◌==◌, All, Contains, not, nat_eq}
+use Rattle.std.proofs.Common.{◌≡◌, ◌≢◌, ℕ, zero, suc, ◌+◌, ◌-◌, ◌^◌, ◌≤◌, ◌⊎◌, List, [], ◌∷◌, ◌++◌, length, get_or, Some, cond, false, refl, sym, ap, subst, ◌∙◌, inl, inr, arith, eq-eqb, ne_eqb}
+use Rattle.std.specs.Prelude.{◌<◌, All, Contains, not, nat_eq}
 use Rattle.std.specs.List.{slice_get}
 use Rattle.std.specs.Option.{option_map}
 use Rattle.std.proofs.lemmas.Bool.{cases_lt}
 use Rattle.std.proofs.lemmas.List.{length-map}
 use Rattle.std.proofs.lemmas.List.Elements.{Contains-get_or}
 use Rattle.std.proofs.lemmas.Option.{none-some, slice_get-map, slice_get_within}
-use Rattle.mr_set.specs.Elements.{with_element, without_element}
-use Rattle.mr_set.specs.Subsets.{IsSetOf, choose}
+use Rattle.mr_set.specs.Elements.{IsSet, with_element, without_element}
+use Rattle.mr_set.specs.Subsets.{choose}
 use Rattle.mr_set.specs.Enumeration.{IsFrom, sets_from}
 use Rattle.mr_set.specs.Places.{IsPlaceOf}
 use Rattle.mr_set.proofs.Sorted.{all_head, all_tail, with_front}
-use Rattle.mr_set.proofs.Lexicographic.{from_head, from_tail, room}
+use Rattle.mr_set.proofs.Lexicographic.{from_head, from_tail}
 use Rattle.mr_set.proofs.Choose.{choose-none, choose-small, choose-parts}
 use Rattle.mr_set.proofs.Ordered.{member_cases, place_member}
 use Rattle.mr_set.proofs.Listing.{after_front, member_is_set, length-sets_from, all_sets}
@@ -184,6 +184,13 @@ place_of-all n k x found = record {
 -- what stands in the list of the sets of one size has this size
 pub place-size : (n r k : ℕ) (x : List ℕ) → slice_get (sets_from 0 (n - 0) r) k ≡ Some x → length x ≡ r
 place-size n r k x found = let is = member_is_set 0 (n - 0) r x (place_member (sets_from 0 (n - 0) r) k x found) in is.1
+
+-- it is a set of some of the elements
+pub place-set : (n r k : ℕ) (x : List ℕ) → slice_get (sets_from 0 (n - 0) r) k ≡ Some x → IsSet n x
+place-set n r k x found =
+    let listed = subst (λ m. slice_get (sets_from 0 m r) k ≡ Some x) (let e : n - 0 ≡ n = omega arith in e) found in
+    let is = ((all_sets n r).exactly x).0 (place_member (sets_from 0 n r) k x listed) in
+    is.set
 
 -- and its place there is its place among all sets of its size
 pub place_of-size : (n r k : ℕ) (x : List ℕ) → slice_get (sets_from 0 (n - 0) r) k ≡ Some x → IsPlaceOf n x k

@@ -1,5 +1,5 @@
 -- One step of the search for the next set.
-use Rattle.std.proofs.Common.{◌≡◌, ℕ, zero, suc, ◌+◌, ◌-◌, ◌≤◌, List, [], ◌∷◌, length, get_or, drop, refl, sym, ap, subst, ◌∙◌, arith, length-drop, drop-cons, Option, Some, None}
+use Rattle.std.proofs.Common.{◌≡◌, ℕ, suc, ◌+◌, ◌-◌, ◌≤◌, List, [], ◌∷◌, length, get_or, drop, refl, sym, ap, subst, ◌∙◌, arith, length-drop, drop-cons, Option, Some, None}
 use Rattle.std.specs.Prelude.{◌<◌, MatchOption}
 use Rattle.mr_set.specs.Elements.{with_element}
 use Rattle.mr_set.specs.Subsets.{IsSetOf, IsNext, IsLast}

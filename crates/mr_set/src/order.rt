@@ -6,12 +6,16 @@ use crate::set::Set;
 use arrayvec::ArrayVec;
 use std::cmp::Ordering;
 
+// The most elements that a set has.
+const ROOM: usize = ELEMENTS as usize;
+
 /// The elements in increasing order.
-pub fn elements(s: Set) -> ArrayVec<u32, 32>
+pub fn elements(s: Set) -> ArrayVec<u32, ROOM>
     ensures { result.items ≡ s }
 {
+    // The clauses of `mask` say that the elements stand in order, below `ELEMENTS`.
     let _mask = s.mask();
-    let mut list: ArrayVec<u32, 32> = ArrayVec::new();
+    let mut list: ArrayVec<u32, ROOM> = ArrayVec::new();
     for e in 0..ELEMENTS {
         if s.has(e) {
             list.push(e);

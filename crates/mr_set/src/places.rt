@@ -1,4 +1,5 @@
 ghost use Rattle.std.specs.Prelude.{◌≡◌, ◌-◌, ◌<◌, ◌≤◌, length, slice_get, Some};
+ghost use Rattle.mr_set.specs.Elements.{IsSet};
 ghost use Rattle.mr_set.specs.Subsets.{IsSetOf, choose};
 ghost use Rattle.mr_set.specs.Enumeration.{IsFrom, sets_from};
 ghost use Rattle.mr_set.specs.Places.{IsPlaceOf};
@@ -36,6 +37,7 @@ fn place_from(low: u32, n: u32, s: Set) -> u32
 pub fn subset_at(n: u32, r: u32, k: u32) -> Set
     requires elements { n ≤ ELEMENTS }
     requires place { k < choose n r }
+    ensures set { IsSet n result }
     ensures size { length result ≡ r }
     ensures place { IsPlaceOf n result k }
 {
@@ -58,3 +60,6 @@ fn subset_from(low: u32, n: u32, r: u32, k: u32) -> Set
         subset_from(low + 1, n, r, k - with_low)
     }
 }
+
+#[cfg(test)]
+mod tests;

@@ -4,7 +4,7 @@ ghost use Rattle.mr_set.specs.Elements.{IsSet, IsSubset, elements_below, mask_of
 use crate::ELEMENTS;
 use std::marker::Model;
 
-/// A set of elements below 32. Contracts see it as the increasing list of its elements.
+/// A set of elements below `ELEMENTS`. Contracts see it as the increasing list of its elements.
 #[derive(Clone, Copy, Debug, PartialEq, Eq)]
 pub struct Set {
     mask: u64,
@@ -14,12 +14,13 @@ impl Model for Set {
     ghost use Rattle.std.specs.Prelude.{ℕ, ◌<◌, ◌^◌, List};
     ghost use Rattle.mr_set.specs.Elements.{elements_below, mask_of};
     ghost use Rattle.mr_set.specs.Masks.{mask_again};
+    ghost use Rattle.mr_set.specs.declared.TheConstants.{ELEMENTS};
 
     ghost Value = { List ℕ };
 
-    ghost view = { λ s. elements_below 32 s.mask };
+    ghost view = { λ s. elements_below ELEMENTS s.mask };
 
-    ghost invariant = { λ s. s.mask < 2 ^ 32 };
+    ghost invariant = { λ s. s.mask < 2 ^ ELEMENTS };
 
     ghost inverse = { λ x. record { mask = mask_of x } };
 
@@ -37,7 +38,7 @@ impl Set {
     pub fn of_mask(mask: u64) -> Option<Set>
         ensures { SomeIff result (mask < 2 ^ ELEMENTS) (elements_below ELEMENTS mask) }
     {
-        if mask < 1 << 32 {
+        if mask < 1 << ELEMENTS {
             Some(Set { mask })
         } else {
             None
@@ -112,5 +113,31 @@ impl Set {
         ensures { result ≡ length self.now }
     {
         self.mask.count_ones()
+    }
+}
+
+#[cfg(test)]
+mod tests {
+    use super::*;
+    use crate::{elements, is_before};
+
+    #[test]
+    fn masks_below_the_limit_are_sets(rt: HostRuntime) {
+        assert_eq!(rt; Set::of_mask(1 << 32), None);
+        let all = Set::of_mask((1 << 32) - 1).expect(&rt, "a set");
+        assert_eq!(rt; all.len(), 32);
+        let x = Set::of_mask(0b01001).expect(&rt, "a set");
+        let y = Set::of_mask(0b11010).expect(&rt, "a set");
+        assert_eq!(rt; elements(y).as_slice(), [1, 3, 4].as_slice());
+        assert_eq!(rt; x.union(y).mask(), 0b11011);
+        assert_eq!(rt; x.meet(y).mask(), 0b01000);
+        assert_eq!(rt; x.minus(y).mask(), 0b00001);
+        assert_eq!(rt; x.with(2).without(0).mask(), 0b01100);
+        assert_eq!(rt; (x.has(3), x.has(1)), (true, false));
+        assert_eq!(rt; (x.within(y), x.meet(y).within(y)), (false, true));
+        assert_eq!(rt;
+            (is_before(x, y), is_before(y, x), is_before(x, x)),
+            (true, false, false)
+        );
     }
 }

@@ -24,3 +24,37 @@ pub(crate) fn combinations(n: u32, r: u32) -> u32
     }
     count as u32
 }
+
+#[cfg(test)]
+mod tests {
+    use super::*;
+
+    // How many sets there are, where the sizes are allowed.
+    fn count(n: u32, r: u32) -> Option<u32> {
+        if n > ELEMENTS {
+            return None;
+        }
+        if r > ELEMENTS {
+            return None;
+        }
+        binomial(n, r)
+    }
+
+    #[test]
+    fn sets_are_counted_up_to_the_limit(rt: HostRuntime) {
+        for (n, r, want) in [
+            (0, 0, Some(1)),
+            (3, 5, Some(0)),
+            (6, 3, Some(20)),
+            (14, 6, Some(3003)),
+            (15, 5, Some(3003)),
+            (15, 6, None),
+            (32, 3, Some(4960)),
+            (32, 16, None),
+            (32, 29, Some(4960)),
+            (32, 32, Some(1)),
+        ] {
+            assert_eq!(rt; count(n, r), want, "at {n} and {r}");
+        }
+    }
+}

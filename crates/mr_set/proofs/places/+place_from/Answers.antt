@@ -1,7 +1,5 @@
-use Rattle.std.proofs.Common.{◌≡◌, ◌≢◌, ◌<◌, ◌+◌, ◌-◌, ◌∙◌, length, sym, ap, arith}
-use Rattle.std.specs.Prelude.{Contains}
+use Rattle.std.proofs.Common.{◌≢◌, ◌+◌, ◌-◌, ◌∙◌, length, ap, arith}
 use Rattle.mr_set.specs.Subsets.{choose}
-use Rattle.mr_set.specs.Enumeration.{IsFrom}
 use Rattle.mr_set.proofs.Placing.{begins_rest, begins_above, place-empty, some_room, place_of-with, place_of-without, place_of-small}
 use Rattle.mr_set.proofs.places.+place_from.Goals as goal
 

@@ -1,4 +1,4 @@
-use Rattle.std.proofs.Common.{◌<◌, ◌-◌, arith}
+use Rattle.std.proofs.Common.{◌-◌, arith}
 use Rattle.mr_set.proofs.Placing.{some_left, set_at-empty, set_at-with, set_at-without, place-rest}
 use Rattle.mr_set.proofs.places.+subset_from.Goals as goal
 

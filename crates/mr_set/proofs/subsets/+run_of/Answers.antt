@@ -1,6 +1,5 @@
-use Rattle.std.proofs.Common.{◌≡◌, ◌+◌, ◌∙◌, ap, sym, arith}
+use Rattle.std.proofs.Common.{◌∙◌, ap, sym}
 use Rattle.mr_set.specs.Elements.{with_element}
-use Rattle.mr_set.specs.Enumeration.{run}
 use Rattle.mr_set.proofs.Lexicographic.{run_none, run_more}
 use Rattle.mr_set.proofs.subsets.+run_of.Goals as goal
 
