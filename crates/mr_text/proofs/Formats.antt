@@ -1,11 +1,11 @@
 -- Faults and values of a text, line by line.
-use Rattle.std.proofs.Common.{◌≡◌, ℕ, ◌+◌, ◌≤◌, List, [], ◌∷◌, ◌++◌, refl, sym, ap, subst, ◌∙◌, inl, inr, ◌⊎◌, Bool, true, false, ◌||◌, arith, length, append_assoc}
-use Rattle.std.specs.Prelude.{◌≢◌, nat_eq}
+use Rattle.std.proofs.Common.{◌≡◌, ℕ, ◌+◌, ◌≤◌, List, [], ◌∷◌, ◌++◌, refl, sym, ap, ◌∙◌, inl, inr, Bool, true, false, ◌||◌, arith, length, append_assoc}
+use Rattle.std.specs.Prelude.{nat_eq}
 use Rattle.std.proofs.lemmas.List.Folds.{list_any-append}
 use Rattle.std.proofs.lemmas.Bool.Decides.{Decides-eqb}
 use Rattle.mr_set.specs.Elements.{is_element}
 use Rattle.mr_text.specs.Text.{Lacks, BeginsWith}
-use Rattle.mr_text.specs.Format.{FirstFault, grammar, size, Table, Format, done, line_of, IsLineOf, IsCutShort, IsStray, IsTooLarge, IsLineFault, IsFirstFault, StandsFor}
+use Rattle.mr_text.specs.Format.{FirstFault, grammar, size, Table, Format, done, line_of, IsLineOf, IsCutShort, IsLineFault, StandsFor}
 use Rattle.mr_text.specs.Tables.{never}
 
 either : (s t : Bool) → s ≡ true → (s || t) ≡ false → ⊥

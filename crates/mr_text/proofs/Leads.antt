@@ -1,6 +1,6 @@
 -- From one point of a text to a later one.
-use Rattle.std.proofs.Common.{◌≡◌, ℕ, ◌+◌, List, refl, inl, inr}
-use Rattle.mr_text.specs.Format.{FirstFault, Table, Format, done, line_of, IsLineOf, IsLineFault, IsFirstFault, StandsFor}
+use Rattle.std.proofs.Common.{ℕ, ◌+◌, List, inl, inr}
+use Rattle.mr_text.specs.Format.{FirstFault, Table, Format, line_of, IsLineOf, IsLineFault, IsFirstFault, StandsFor}
 
 -- what is said of the later point holds of the earlier one
 pub record Leads {M X : Type 0} (from : Format M X) (number : ℕ) (bytes : List ℕ) (to : Format M X) (at : ℕ) (rest : List ℕ) : Type 0 where
