@@ -7,9 +7,9 @@ use Rattle.matrep.proofs.answer.negative.Goals as goal
 
 pub returns-clause-text : goal.returns-clause-text
 returns-clause-text c =
-    c.in_ok-put-3.ensures
-    ∙ ap (λ (w : List ℕ). w ++ 10 ∷ []) (c.in_ok-put_set.ensures
-    ∙ ap (λ (w : List ℕ). w ++ set_text c.args.x) (c.in_ok-put-2.ensures
-    ∙ ap (λ (w : List ℕ). w ++ ((codes "steps 0" ++ 10 ∷ []) ++ codes "end t ")) (c.in_ok-write_matroid.ensures
-    ∙ ap (λ (w : List ℕ). w ++ file_text c.args.m.now) (c.in_ok-put.ensures ∙ ap (λ (w : List ℕ). w ++ ((codes "refutation 1" ++ 10 ∷ []) ++ (codes "field 2" ++ 10 ∷ []))) c.new-text.ensures))))
+    c.in_ok-put-3.ensures.ok
+    ∙ ap (λ (w : List ℕ). w ++ 10 ∷ []) (c.in_ok-put_set.ensures.ok
+    ∙ ap (λ (w : List ℕ). w ++ set_text c.args.x) (c.in_ok-put-2.ensures.ok
+    ∙ ap (λ (w : List ℕ). w ++ ((codes "steps 0" ++ 10 ∷ []) ++ codes "end t ")) (c.in_ok-write_matroid.ensures.ok
+    ∙ ap (λ (w : List ℕ). w ++ file_text c.args.m.now) (c.in_ok-put.ensures.ok ∙ ap (λ (w : List ℕ). w ++ ((codes "refutation 1" ++ 10 ∷ []) ++ (codes "field 2" ++ 10 ∷ []))) c.new-text.ensures))))
     ∙ log_pieces c.args.m.now c.args.x

@@ -14,4 +14,4 @@ loop-j-preserved c =
 pub returns : goal.returns
 returns c =
     let size = (c.requires.grid.each c.args.i [] c.requires.row).size in
-    written_line c.args.out.now c.loop-j.out c.put.new.self (get_or c.args.a.now.rows c.args.i []) c.loop-j.j (omega (arith, size)) c.loop-j.invariant c.in_ok-put.ensures
+    written_line c.args.out.now c.loop-j.out c.put.new.self (get_or c.args.a.now.rows c.args.i []) c.loop-j.j (omega (arith, size)) c.loop-j.invariant c.in_ok-put.ensures.ok
