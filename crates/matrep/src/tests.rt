@@ -1,6 +1,7 @@
 use crate::outcome::Exit;
 use crate::run::run;
-use mr_io::{MemSink, MemSource, Silent, SureSource};
+use crate::solve::solve_one;
+use mr_io::{MemSink, MemSource, Silent, Source, SureSource};
 use std::alloc::Global;
 use std::sync::Wait;
 use std::test::Fail;
@@ -17,59 +18,159 @@ const U24: &[u8] = b"matroid 1\nelements 4\nrank 2\nnonbases 0\nend\n";
 const U24_LOG: &[u8] =
     b"refutation 1\nfield 2\nmatroid 1\nelements 4\nrank 2\nnonbases 0\nend\nsteps 0\nend t 2 3\n";
 
-// The two words of the command.
-fn command(alloc: Global) -> Result<Vec<String>, Fail> {
-    Ok(vec![in alloc;
-        String::from_str(alloc, "solve")?,
-        String::from_str(alloc, "field=2")?,
-    ]?)
+// The words, each a string of its own.
+fn strings(alloc: Global, words: &[&str]) -> Result<Vec<String>, Fail> {
+    let mut list = Vec::new(alloc);
+    for word in words {
+        list.push(String::from_str(alloc, word)?)?;
+    }
+    Ok(list)
 }
 
+fn run_on<R: Threads + Wait + Sync, I: Source>(
+    rt: &R,
+    alloc: Global,
+    words: &[&str],
+    source: &mut I,
+    sink: &mut MemSink,
+) -> Result<Exit, Fail> {
+    let words = strings(alloc, words)?;
+    Ok(run(rt, alloc, &words, source, sink, &Silent))
+}
+
+// The status of `solve field=2` on an input that never fails.
 fn solve<R: Threads + Wait + Sync>(
     rt: &R,
     alloc: Global,
     input: &[u8],
     sink: &mut MemSink,
-) -> Result<Exit, Fail> {
-    let words = command(alloc)?;
+) -> Result<u8, Fail> {
     let mut source = SureSource::new(alloc, input)?;
-    Ok(run(rt, alloc, &words, &mut source, sink, &Silent))
+    let exit = run_on(rt, alloc, &["solve", "field=2"], &mut source, sink)?;
+    Ok(exit.status())
 }
 
 #[test]
-fn files_of_matroids_are_solved(rt: HostRuntime) -> Result<(), Fail> {
+fn a_matroid_is_represented_or_refuted(rt: HostRuntime) -> Result<(), Fail> {
     let alloc = rt.alloc();
-    let cases: [(&[u8], u8, &[u8]); 2] = [(FANO, 0, FANO_DONE), (U24, 1, U24_LOG)];
+    let cases: [(&[u8], u8, &[u8]); 5] = [
+        (FANO, 0, FANO_DONE),
+        (U24, 1, U24_LOG),
+        (
+            b"matroid 1\nelements 11\nrank 2\nnonbases 0\nend\n",
+            1,
+            b"refutation 1\nfield 2\nmatroid 1\nelements 11\nrank 2\nnonbases 0\nend\nsteps 0\nend t 2 3\n",
+        ),
+        (
+            b"matroid 1\nelements 32\nrank 0\nnonbases 0\nend\n",
+            0,
+            b"representations 1 field 2\nmatrix 2 0 32\nend\n",
+        ),
+        (
+            b"matroid 1\nelements 2\nrank 2\nnonbases 0\nend\n",
+            0,
+            b"representations 1 field 2\nmatrix 2 2 2\n1 0\n0 1\nend\n",
+        ),
+    ];
     for (input, status, text) in cases {
         let mut sink = MemSink::new(alloc, 100, 4096, [].as_slice())?;
-        assert_eq!(rt; solve(&rt, alloc, input, &mut sink)?.status(), status);
+        assert_eq!(rt; solve(&rt, alloc, input, &mut sink)?, status);
         assert_eq!(rt; sink.held(), text);
     }
     Ok(())
 }
 
 #[test]
-fn other_inputs_are_refused(rt: HostRuntime) -> Result<(), Fail> {
+fn another_input_is_refused(rt: HostRuntime) -> Result<(), Fail> {
     let alloc = rt.alloc();
-    let cases: [(&[u8], &[u8]); 4] = [
-        (
-            b"matroid 1\nelements 2\nrank 1\nnonbases 2\n0\n1\nend\n",
-            b"refused no basis\n",
-        ),
+    let cases: [(&[u8], &[u8]); 8] = [
         (b"", b"refused grammar line 1\n"),
         (
-            b"matroid 1\nelements 4\nrank 2\nnonbases 2\n0 1\n1 2\nend\n",
-            b"refused exchange b1 1 3 b2 0 2 x 3\n",
+            b"matroid 1\nelements 4\nrank 2\nnonbases 0\nen",
+            b"refused grammar line 5\n",
         ),
         (
             b"matroid 1\nelements 33\nrank 2\nnonbases 0\nend\n",
             b"refused size line 2 elements\n",
         ),
+        (
+            b"matroid 1\nelements 15\nrank 6\nnonbases 0\nend\n",
+            b"refused size line 3 sets\n",
+        ),
+        (
+            b"matroid 1\nelements 2\nrank 3\nnonbases 0\nend\n",
+            b"refused size line 3 rank\n",
+        ),
+        (
+            b"matroid 1\nelements 4\nrank 2\nnonbases 7\nend\n",
+            b"refused size line 4 nonbases\n",
+        ),
+        (
+            b"matroid 1\nelements 2\nrank 1\nnonbases 2\n0\n1\nend\n",
+            b"refused no basis\n",
+        ),
+        (
+            b"matroid 1\nelements 4\nrank 2\nnonbases 2\n0 1\n1 2\nend\n",
+            b"refused exchange b1 1 3 b2 0 2 x 3\n",
+        ),
     ];
     for (input, text) in cases {
         let mut sink = MemSink::new(alloc, 100, 4096, [].as_slice())?;
-        assert_eq!(rt; solve(&rt, alloc, input, &mut sink)?.status(), 2);
+        assert_eq!(rt; solve(&rt, alloc, input, &mut sink)?, 2);
         assert_eq!(rt; sink.held(), text);
     }
+    Ok(())
+}
+
+#[test]
+fn one_byte_too_many_is_refused(rt: HostRuntime) -> Result<(), Fail> {
+    let alloc = rt.alloc();
+    let input = vec![in alloc; b'a'; 1_048_577]?;
+    let mut sink = MemSink::new(alloc, 100, 4096, [].as_slice())?;
+    assert_eq!(rt; solve(&rt, alloc, &input, &mut sink)?, 2);
+    assert_eq!(rt; sink.held(), b"refused too long\n".as_slice());
+    Ok(())
+}
+
+#[test]
+fn other_words_offend_at_their_place(rt: HostRuntime) -> Result<(), Fail> {
+    let alloc = rt.alloc();
+    let cases: [(&[&str], &[u8]); 6] = [
+        (&[], b"usage word 0\n"),
+        (&["--help"], b"usage word 0\n"),
+        (&["solve"], b"usage word 1\n"),
+        (&["solve", "field=3"], b"usage word 1\n"),
+        (&["solve", "nodes=5"], b"usage word 1\n"),
+        (&["solve", "field=2", "field=2"], b"usage word 2\n"),
+    ];
+    for (words, text) in cases {
+        let mut source = SureSource::new(alloc, FANO)?;
+        let mut sink = MemSink::new(alloc, 100, 4096, [].as_slice())?;
+        let exit = run_on(&rt, alloc, words, &mut source, &mut sink)?;
+        assert_eq!(rt; exit.status(), 3);
+        assert_eq!(rt; sink.held(), text);
+    }
+    Ok(())
+}
+
+#[test]
+fn a_device_that_fails_ends_the_run(rt: HostRuntime) -> Result<(), Fail> {
+    let alloc = rt.alloc();
+    let mut source = MemSource::new(alloc, FANO, 100, [1].as_slice())?;
+    let mut sink = MemSink::new(alloc, 100, 4096, [].as_slice())?;
+    let exit = run_on(&rt, alloc, &["solve", "field=2"], &mut source, &mut sink)?;
+    assert_eq!(rt; exit.status(), 6);
+    assert_eq!(rt; sink.held(), b"".as_slice());
+    let mut sink = MemSink::new(alloc, 8, 4096, [2].as_slice())?;
+    assert_eq!(rt; solve(&rt, alloc, FANO, &mut sink)?, 7);
+    assert_eq!(rt; sink.held(), b"represen".as_slice());
+    Ok(())
+}
+
+#[test]
+fn one_worker_gives_the_text_of_a_run(rt: HostRuntime) -> Result<(), Fail> {
+    let outcome = solve_one(rt.alloc(), FANO, 2, 20000, 0, false)?;
+    assert_eq!(rt; outcome.exit.status(), 0);
+    assert_eq!(rt; outcome.text.as_bytes(), FANO_DONE);
     Ok(())
 }
