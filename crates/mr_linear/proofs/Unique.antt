@@ -1,17 +1,18 @@
--- There is one answer, and one rank.
+-- There is one first basis, one answer, and one rank.
 use Rattle.std.proofs.Common.{ℕ, zero, suc, ◌<◌, ◌≡◌, ◌↔◌, ◌⊎◌, List, [], ◌∷◌, length, get_or, refl, sym, ap, ap₂, ◌∙◌, ⊎_elim, inl, inr, subst, arith}
 use Rattle.std.specs.Prelude.{Contains, flat_map}
 use Rattle.std.specs.List.Sorted.{IsStrictlySortedBy}
 use Rattle.std.specs.Ordering.{ordering_reverse}
 use Rattle.std.specs.declared.cmp.Ordering.{Ordering}
-use Rattle.std.specs.declared.cmp.Ordering.TheVariants.{Less, Greater}
+use Rattle.std.specs.declared.cmp.Ordering.TheVariants.{Less, Equal, Greater}
 use Rattle.std.proofs.lemmas.Cmp.{nat_list_cmp_total}
 use Rattle.std.proofs.lemmas.Map.Keys.{sorted_tail}
+use Rattle.std.proofs.lemmas.Map.Lookups.{exact_bytes}
 use Rattle.std.proofs.lemmas.Map.Views.{All-after_first}
 use Rattle.mr_set.specs.Subsets.{IsBefore, list_cmp}
-use Rattle.mr_set.specs.Matroid.{Presentation}
+use Rattle.mr_set.specs.Matroid.{Presentation, IsFirstBasis}
 use Rattle.mr_linear.specs.Matrix.{Grid, grid_cmp, IsColumnRank}
-use Rattle.mr_linear.specs.Representation.{IsAnswer}
+use Rattle.mr_linear.specs.Representation.{HasIdentity, IsStandard, IsAnswer}
 
 -- of two lists at most one comes before the other
 asymmetric : (x y : List ℕ) → IsBefore x y → IsBefore y x → ⊥
@@ -53,6 +54,19 @@ module _ (A : Type 0) where
       back : (e : A) → Contains ys e → Contains xs e
       back e h = ⊎_elim (λ (p : e ≡ x). let less : cmp y y ≡ Less = subst (λ (u : A). cmp y u ≡ Less) (p ∙ head) (after y ys sy e h) in absurd (asym y y less less)) (λ (p : Contains xs e). p)
           (split x xs e ((same e).1 (is_later y ys e h)))
+
+-- there is one first basis
+pub one-first_basis : (m : Presentation) (b d : List ℕ) → IsFirstBasis m b → IsFirstBasis m d → b ≡ d
+one-first_basis m b d hb hd = by_order (list_cmp b d) refl
+  where
+    by_order : (o : Ordering) → list_cmp b d ≡ o → b ≡ d
+    by_order Less e = absurd (hd.least b hb.basis e)
+    by_order Equal e = exact_bytes b d e
+    by_order Greater e = absurd (hb.least d hd.basis (nat_list_cmp_total.antisymm d b ∙ ap ordering_reverse e))
+
+-- so a standard matrix is the identity at the first basis
+pub identity-standard : (m : Presentation) (a : Grid) (b : List ℕ) → IsStandard m a → IsFirstBasis m b → HasIdentity b a
+identity-standard m a b h hb = subst (λ x. HasIdentity x a) (one-first_basis m h.basis b h.first hb) h.identity
 
 -- there is one answer
 pub one-answer : (m : Presentation) (q : ℕ) (xs ys : List Grid) → IsAnswer m q xs → IsAnswer m q ys → xs ≡ ys

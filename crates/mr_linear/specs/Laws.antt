@@ -3,10 +3,10 @@ use Rattle.std.specs.Prelude.{◌≡◌, ◌≢◌, ◌↔◌, ℕ, ◌<◌, Lis
 use Rattle.mr_field.specs.Gf.{mul, order}
 use Rattle.mr_set.specs.Elements.{IsSet, with_element, without_element}
 use Rattle.mr_set.specs.Subsets.{IsSetOf}
-use Rattle.mr_set.specs.Matroid.{Presentation, IsMatroid, IsBasis}
+use Rattle.mr_set.specs.Matroid.{Presentation, IsMatroid, IsBasis, IsFirstBasis}
 use Rattle.mr_linear.specs.Matrix.{Grid, IsGrid, height, entry, AreDependent, AreIndependent, PartIsIndependent, IsColumnRank}
 use Rattle.mr_linear.specs.Operations.{AreEquivalent}
-use Rattle.mr_linear.specs.Representation.{Represents, RepresentsBases, HasIdentity, IsAnswer}
+use Rattle.mr_linear.specs.Representation.{Represents, RepresentsBases, HasIdentity, IsStandard, IsAnswer}
 
 -- operations keep the independence of every set of columns
 abbrev pub OperationsKeepIndependence : Type 0
@@ -78,3 +78,7 @@ ThereIsOneRank = (a : Grid) (j k : ℕ) → IsColumnRank a j → IsColumnRank a 
 -- a matroid has one answer over the field with q elements
 abbrev pub ThereIsOneAnswer : Type 0
 ThereIsOneAnswer = (m : Presentation) (q : ℕ) (xs ys : List Grid) → IsAnswer m q xs → IsAnswer m q ys → xs ≡ ys
+
+-- a standard matrix is the identity at the first basis, of which there is one
+abbrev pub StandardMatricesHaveTheIdentity : Type 0
+StandardMatricesHaveTheIdentity = (m : Presentation) (a : Grid) (b : List ℕ) → IsStandard m a → IsFirstBasis m b → HasIdentity b a
