@@ -15,13 +15,15 @@ use Rattle.mr_set.proofs.Members.{cmp_from_less}
 use Rattle.mr_set.specs.Enumeration.{IsFrom, run, IsNextFrom, IsLastFrom, weight}
 use Rattle.mr_set.proofs.Sorted.{all_head, all_tail, all_cons, all_none, below_all, all_above, sorted_cons, sorted_parts, sorted_none, with_front}
 
--- lists in order, by their first numbers
+-- with the same first number the rests decide
 pub before_same : (e : ℕ) (a b : List ℕ) → IsBefore a b → IsBefore (e ∷ a) (e ∷ b)
 before_same e a b lt = ap (λ o. ordering_then o (list_cmp a b)) (tied_itself nat_cmp_total e) ∙ lt
 
+-- the list with the smaller first number comes first
 pub before_less : (e f : ℕ) (a b : List ℕ) → e < f → IsBefore (e ∷ a) (f ∷ b)
 before_less e f a b lt = ap (λ o. ordering_then o (list_cmp a b)) (cmp_from_less e f lt)
 
+-- a list comes first by its first number, or by the rest where the first numbers are equal
 pub before_parts : (e f : ℕ) (a b : List ℕ) → IsBefore (e ∷ a) (f ∷ b) → (e < f) ⊎ ((e ≡ f) × IsBefore a b)
 before_parts e f a b lt = elim (cases_lt e f) [
   | inl less ↦ inl less
@@ -37,6 +39,7 @@ before_parts e f a b lt = elim (cases_lt e f) [
     greater Equal p back turn lt = cc
     greater Greater p back turn lt = cc
 
+-- no list comes before itself
 pub irreflexive : (x : List ℕ) → IsBefore x x → ⊥
 irreflexive x lt = let same = tied_itself nat_list_cmp_total x in cc
 
@@ -44,11 +47,13 @@ irreflexive x lt = let same = tied_itself nat_list_cmp_total x in cc
 pub from_head : (low n e : ℕ) (es : List ℕ) → IsFrom low n (e ∷ es) → (low ≤ e) × (e < n)
 from_head low n e es is = (all_head (λ x. low ≤ x) e es is.from, all_head (λ x. x < n) e es is.within)
 
+-- the rest of a set has greater elements
 pub from_tail : (low n e : ℕ) (es : List ℕ) → IsFrom low n (e ∷ es) → IsFrom (e + 1) n es
 from_tail low n e es is =
     let parts = sorted_parts e es is.increasing in
     record { increasing = parts.1; within = all_tail (λ x. x < n) e es is.within; from = all_above e es parts.0 }
 
+-- a smaller number in front of a set makes a set
 pub from_cons : (low n e : ℕ) (es : List ℕ) → low ≤ e → e < n → IsFrom (e + 1) n es → IsFrom low n (e ∷ es)
 from_cons low n e es le lt is = record {
   increasing = sorted_cons e es (below_all e es is.from) is.increasing;
@@ -56,12 +61,15 @@ from_cons low n e es le lt is = record {
   from = all_cons (λ x. low ≤ x) e es le (λ k d h. let b = is.from k d h in omega arith);
 }
 
+-- the set without elements begins anywhere
 pub from_none : (low n : ℕ) → IsFrom low n []
 from_none low n = record { increasing = sorted_none; within = all_none (λ e. e < n); from = all_none (λ e. low ≤ e) }
 
+-- a set of some of the first n elements is one of elements from 0 on
 pub from_set : (n r : ℕ) (x : List ℕ) → IsSetOf n r x → IsFrom 0 n x
 from_set n r x is = record { increasing = is.set.increasing; within = is.set.elements; from = λ k d lt. omega arith }
 
+-- and the other way round
 pub set_from : (n r low : ℕ) (x : List ℕ) → IsFrom low n x → length x ≡ r → IsSetOf n r x
 set_from n r low x is size = record { set = record { increasing = is.increasing; elements = is.within }; size = size }
 
@@ -76,11 +84,13 @@ unfolding run
 length-run low zero = refl
 length-run low (suc count) = ap suc (length-run (low + 1) count)
 
+-- they are a set
 pub run-from : (low n count : ℕ) → low + count ≤ n → IsFrom low n (run low count)
 unfolding run
 run-from low n zero le = from_none low n
 run-from low n (suc count) le = from_cons low n low (run (low + 1) count) (omega arith) (omega arith) (run-from (low + 1) n count (omega arith))
 
+-- no set of their size comes before them
 pub run-least : (low n count : ℕ) (z : List ℕ) → IsFrom low n z → length z ≡ count → IsBefore z (run low count) → ⊥
 unfolding run
 run-least low n zero [] is size lt = cc
@@ -143,7 +153,7 @@ last_raised low n e es last full (f ∷ fs) from size lo = elim (before_parts e 
   | inr same ↦ last fs (subst (λ k. IsFrom (k + 1) n fs) (sym same.0) (from_tail low n f fs from)) (omega arith) same.1
 ]
 
--- what the calls answer
+-- the next set from 0 on is the next of all
 pub next_of : (n r : ℕ) (x y : List ℕ) → IsNextFrom 0 n x y → IsNext n x y
 next_of n r x y next = record {
   subset = set_from n (length x) 0 y next.set next.size;
@@ -151,23 +161,27 @@ next_of n r x y next = record {
   none_between = λ z is lo hi. next.none_between z (from_set n (length x) z is) is.size lo hi;
 }
 
+-- no next set from 0 on is no next set at all
 pub last_of : (n : ℕ) (x : List ℕ) → IsLastFrom 0 n x → IsLast n x
 last_of n x last z is lt = last z (from_set n (length x) z is) is.size lt
 
+-- the first numbers are the first set
 pub first_of_all : (n r : ℕ) → r ≤ n → IsFirst n r (run 0 r)
 first_of_all n r le = record {
   subset = set_from n r 0 (run 0 r) (run-from 0 n r (omega arith)) (length-run 0 r);
   least = λ z is lt. run-least 0 n r z (from_set n r z is) is.size lt;
 }
 
--- the weight of a set falls
+-- the weight of the first number and of the rest
 weight-cons : (e : ℕ) (es : List ℕ) → weight (e ∷ es) ≡ 2 ^ (31 - e) + weight es
 unfolding weight
 weight-cons e es = refl
 
+-- two halves
 double : (k : ℕ) → 2 ^ suc k ≡ 2 ^ k + 2 ^ k
 double k = rw (pow-suc 2 k) (omega arith)
 
+-- a set whose elements begin at low weighs less than the bit before low
 weight-small : (low : ℕ) (x : List ℕ) → IsFrom low 32 x → low ≤ 32 → weight x < 2 ^ (32 - low)
 unfolding weight
 weight-small low [] is le = pow_pos (32 - low)
@@ -180,6 +194,7 @@ weight-small low (e ∷ es) is le =
     let total = weight-cons e es in
     omega arith
 
+-- the later of two sets of one size weighs less
 pub weight_falls : (low : ℕ) (x y : List ℕ) → IsFrom low 32 x → IsFrom low 32 y → length y ≡ length x → IsBefore x y → weight y < weight x
 unfolding weight
 weight_falls low [] [] p q size lt = absurd cc
@@ -206,6 +221,7 @@ unfolding run
 run_none low zero is = refl
 run_none low (suc count) is = absurd (omega arith)
 
+-- one number in front of a run
 pub run_more : (low count : ℕ) → count ≢ 0 → low + count ≤ 32 → run low count ≡ with_element low (run (low + 1) (count - 1))
 unfolding run
 run_more low zero some le = absurd (some refl)

@@ -1,5 +1,5 @@
 -- Sets by the test for an element. Two sets with the same elements are equal.
-use Rattle.std.proofs.Common.{◌≡◌, ℕ, zero, suc, ◌+◌, ◌<◌, ◌≤◌, Bool, true, false, not, cond, ◌&&◌, ◌||◌, List, [], ◌∷◌, ◌++◌, refl, sym, ap, ◌∙◌, subst, inl, inr, arith}
+use Rattle.std.proofs.Common.{◌≡◌, ℕ, zero, suc, ◌<◌, ◌≤◌, Bool, true, false, not, cond, ◌&&◌, ◌||◌, List, [], ◌∷◌, ◌++◌, refl, sym, ap, ◌∙◌, subst, inl, inr, arith}
 use Rattle.std.specs.Prelude.{◌==◌, nat_eq, nat_lt, filter, Contains}
 use Rattle.std.specs.List.{AllByRecursion}
 use Rattle.std.specs.List.Sorted.{IsStrictlySortedBy}
@@ -207,12 +207,3 @@ Contains-from_element xs e h = Contains-from_any {eq = nat_eq} same_numbers e xs
 -- and the other way round
 pub is_element-from_Contains : (xs : List ℕ) (e : ℕ) → Contains xs e → is_element xs e ≡ true
 is_element-from_Contains xs e h = list_any-from_Contains nat_eq_equiv e xs h
-
--- the next number put to those below it
-pub with_element-numbers_below : (n : ℕ) → with_element n (numbers_below n) ≡ numbers_below (n + 1)
-with_element-numbers_below n =
-    same_sets (with_element n (numbers_below n)) (numbers_below (n + 1)) (with_element-sorted n (numbers_below n) (numbers_below-sorted n)) (numbers_below-sorted (n + 1)) (λ e.
-    is_element-with n e (numbers_below n) ∙ ap (λ b. nat_eq e n || b) (is_element-numbers_below n e) ∙ next e ∙ sym (is_element-numbers_below (n + 1) e))
-  where
-    next : (e : ℕ) → (nat_eq e n || nat_lt e n) ≡ nat_lt e (n + 1)
-    next e = grind (arith, nat_tests)

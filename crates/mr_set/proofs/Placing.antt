@@ -70,6 +70,7 @@ without-none e (y ∷ ys) above =
     let differs : nat_eq y e ≡ false = ne_eqb y e (let h = all_head (λ k. e + 1 ≤ k) y ys above in omega arith) in
     ap (λ b. cond (not b) (y ∷ without_element e ys) (without_element e ys)) differs ∙ ap (λ w. y ∷ w) (without-none e ys (all_tail (λ k. e + 1 ≤ k) y ys above))
 
+-- a set with low whose elements begin there
 pub begins : (low n : ℕ) (x : List ℕ) → IsFrom low n x → Contains x low → Begins low n x
 begins low n [] from inside = absurd (let h = inside.1 in omega arith)
 begins low n (e ∷ es) from inside =

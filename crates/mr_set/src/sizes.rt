@@ -18,6 +18,7 @@ pub(crate) fn combinations(n: u32, r: u32) -> u32
     requires { n ≤ ELEMENTS }
     ensures { result ≡ choose n r }
 {
+    // Along a row of Pascal's triangle. No division leaves a rest.
     let mut count = 1_u64;
     for k in 0..r {
         count = count * u64::from(n.saturating_sub(k)) / (u64::from(k) + 1);
