@@ -10,35 +10,38 @@ use Rattle.mr_text.specs.Tables.{never, fixed, keyed}
 use Rattle.mr_file.specs.declared.fault.Measure.{Measure}
 use Rattle.mr_file.specs.declared.fault.Measure.TheVariants.{Elements, Rank, Sets, Nonbases}
 
--- By which measure a number of elements is too large, a rank of n elements, and a number of nonbases.
+-- by which measure a number of elements is too large
 abbrev pub ElementsExceed : ℕ → Measure → Type 0
 ElementsExceed n Elements = ELEMENTS < n
 ElementsExceed n Rank = ⊥
 ElementsExceed n Sets = ⊥
 ElementsExceed n Nonbases = ⊥
 
+-- by which measure a rank of n elements is too large
 abbrev pub RankExceeds : ℕ → ℕ → Measure → Type 0
 RankExceeds n r Elements = ⊥
 RankExceeds n r Rank = n < r
 RankExceeds n r Sets = (r ≤ n) × (SETS < choose n r)
 RankExceeds n r Nonbases = ⊥
 
+-- by which measure a number of nonbases of rank r on n elements is too large
 abbrev pub CountExceeds : ℕ → ℕ → ℕ → Measure → Type 0
 CountExceeds n r k Elements = ⊥
 CountExceeds n r k Rank = ⊥
 CountExceeds n r k Sets = ⊥
 CountExceeds n r k Nonbases = choose n r < k
 
--- a set of r of the first n elements, later than the one before
+-- the line is a set of r of the first n elements, which stands after the last one
 pub record IsSetLine (n r : ℕ) (last : Option (List ℕ)) (line x : List ℕ) : Type 0 where
   pub set : IsSetOf n r x
   pub after : IfSome last (λ y. IsBefore y x)
   pub text : line ≡ set_text x
 
+-- a line of such a set
 abbrev pub set_table : ℕ → ℕ → Option (List ℕ) → Table Measure (List ℕ)
 set_table n r last = record { spells = IsSetLine n r last; exceeds = never }
 
--- so many more sets, after these
+-- so many more lines of sets, after those of these sets
 unfoldable pub set_lines : {X : Type 0} → ℕ → ℕ → ℕ → List (List ℕ) → Option (List ℕ) → (List (List ℕ) → Format Measure X) → Format Measure X
 set_lines n r zero sets last due = due sets
 set_lines n r (suc count) sets last due = line_of (set_table n r last) (λ x. set_lines n r count (sets ++ x ∷ []) (Some x) due)
@@ -63,6 +66,7 @@ file_lines m =
     ∷ (codes "nonbases " ++ decimal (length m.nonbases))
     ∷ (map set_text m.nonbases ++ codes "end" ∷ [])
 
+-- the bytes of the file of these numbers and sets
 abbrev pub file_text : Presentation → List ℕ
 file_text m = text_of_lines (file_lines m)
 

@@ -43,7 +43,7 @@ exchange_or_failure : (m : Presentation) (b1 b2 : List ℕ) (x : ℕ) → IsMatr
 exchange_or_failure m b1 b2 x matroid failure = matroid.exchange b1 b2 x failure.fails
 
 -- an exchange that fails is one of bases
-basis_of_failure : (m : Presentation) (b1 b2 : List ℕ) (x : ℕ) → HasNoBasis m → IsFirstFailure m b1 b2 x → ⊥
+pub basis_of_failure : (m : Presentation) (b1 b2 : List ℕ) (x : ℕ) → HasNoBasis m → IsFirstFailure m b1 b2 x → ⊥
 basis_of_failure m b1 b2 x none failure = none b1 failure.fails.first
 
 -- one answer is due
