@@ -1,5 +1,5 @@
 -- Whether a set fails, by the independence of its columns.
-use Rattle.std.proofs.Common.{◌≡◌, ◌⊎◌, ◌↔◌, ℕ, ◌+◌, ◌≤◌, Bool, true, false, not, List, length, refl, sym, ap, subst, ◌∙◌, inl, inr, ⊎_elim, arith, IsTrue}
+use Rattle.std.proofs.Common.{◌⊎◌, ◌↔◌, ℕ, ◌≤◌, Bool, true, false, not, List, refl, sym, subst, inl, inr, ⊎_elim, IsTrue}
 use Rattle.std.specs.Prelude.{MatchBool}
 use Rattle.mr_set.specs.Elements.{IsSet, is_element, minus}
 use Rattle.mr_set.specs.Subsets.{IsSetOf}
@@ -31,10 +31,13 @@ basis_fails m b a x basis filled set is true tells = λ fails. ⊎_elim
     (λ (p : (¬ (IsBasis m x)) × PartIsIndependent a b x). p.0 is)
     (λ (p : IsBasis m x × PartIsDependent a b x). (parts m b a x basis filled set).0 (tells.0 refl) p.1)
     fails
-basis_fails m b a x basis filled set is false tells = inr (is, ⊎_elim
-    (λ (d : PartIsDependent a b x). d)
-    (λ (i : PartIsIndependent a b x). absurd (let yes = tells.1 ((parts m b a x basis filled set).1 i) in cc))
-    (part_decided a b x))
+basis_fails m b a x basis filled set is false tells = inr (
+  is,
+  ⊎_elim
+      (λ (d : PartIsDependent a b x). d)
+      (λ (i : PartIsIndependent a b x). absurd (let yes = tells.1 ((parts m b a x basis filled set).1 i) in cc))
+      (part_decided a b x),
+)
 
 -- another set fails just where its columns are independent
 pub other_fails : (m : Presentation) (b : List ℕ) (a : Grid) (x : List ℕ) → IsBasis m b → IsFilled m b a → IsSetOf m.elements m.rank x → ¬ (IsBasis m x)

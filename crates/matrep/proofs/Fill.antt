@@ -1,15 +1,15 @@
 -- A matrix that is filled entry by entry, and what it is in the end.
-use Rattle.std.proofs.Common.{◌≡◌, ◌≢◌, ◌⊎◌, ◌↔◌, ℕ, ◌+◌, ◌≤◌, Bool, true, false, cond, eqb, ◌&&◌, List, [], length, get_or, refl, sym, ap, subst, ◌∙◌, inl, inr, ⊎_elim, arith, eq-eqb, ne_eqb}
+use Rattle.std.proofs.Common.{◌≡◌, ◌≢◌, ◌↔◌, ℕ, ◌+◌, ◌≤◌, Bool, true, false, cond, eqb, ◌&&◌, List, length, get_or, refl, sym, ap, subst, ◌∙◌, inl, inr, ⊎_elim, arith, eq-eqb, ne_eqb}
 use Rattle.std.specs.Prelude.{◌<◌, Contains}
-use Rattle.std.proofs.lemmas.Bool.{cases_eq, cases_lt, cases_Bool}
+use Rattle.std.proofs.lemmas.Bool.{cases_eq, cases_lt}
 use Rattle.std.proofs.lemmas.List.Elements.{Contains-get_or}
 use Rattle.std.proofs.lemmas.Map.Keys.{below_from_sorted}
 use Rattle.mr_field.specs.Gf.{Gf, gf2, order}
-use Rattle.mr_set.specs.Elements.{IsSet, with_element, without_element}
+use Rattle.mr_set.specs.Elements.{with_element, without_element}
 use Rattle.mr_set.specs.Subsets.{IsSetOf}
-use Rattle.mr_set.specs.Matroid.{Presentation, IsBasis, IsFirstBasis}
+use Rattle.mr_set.specs.Matroid.{Presentation, IsBasis}
 use Rattle.mr_linear.specs.Columns.{Entries}
-use Rattle.mr_linear.specs.Matrix.{Grid, IsGrid, height, entry, grid_of, with_entry}
+use Rattle.mr_linear.specs.Matrix.{Grid, height, entry, grid_of, with_entry}
 use Rattle.mr_linear.specs.Representation.{FitsMatroid, HasIdentity}
 use Rattle.mr_linear.proofs.Grids.{height-grid_of, entry-grid_of, entry-lt, IsGrid-grid_of}
 use Rattle.mr_linear.proofs.Places.{place-lt}
@@ -109,8 +109,9 @@ filled_all m b a row basis all to = record {
   field = to.field;
   identity = identity;
   edges = λ i e l k out. (
-      (λ h. ⊎_elim (λ (p : Contains b e × (e ≡ get_or b i 0)). absurd (out p.0)) (λ (p : (¬ (Contains b e)) × IsBasis m (with_element e (without_element (get_or b i 0) b))). p.1) ((right i e l k).one.0 h)),
-      (λ h. (right i e l k).one.1 (inr (out, h))));
+    (λ h. ⊎_elim (λ (p : Contains b e × (e ≡ get_or b i 0)). absurd (out p.0)) (λ (p : (¬ (Contains b e)) × IsBasis m (with_element e (without_element (get_or b i 0) b))). p.1) ((right i e l k).one.0 h)),
+    (λ h. (right i e l k).one.1 (inr (out, h))),
+  );
 }
   where
     rows : height a ≡ m.rank
@@ -129,9 +130,9 @@ filled_all m b a row basis all to = record {
         (λ (same : i ≡ k). here.one.1 (inl (inside k h, ap (λ (j : ℕ). get_or b j 0) (sym same))) ∙ rw (eq-eqb i k same) refl)
         (λ (other : i ≢ k).
         let not_one : entry a i (get_or b k 0) ≢ 1 = λ one. ⊎_elim
-            (λ (p : Contains b (get_or b k 0) × (get_or b k 0 ≡ get_or b i 0)). other (different m.elements m.rank b basis.0 i k l h p.1))
-            (λ (p : (¬ (Contains b (get_or b k 0))) × IsBasis m (with_element (get_or b k 0) (without_element (get_or b i 0) b))). p.0 (inside k h))
-            (here.one.0 one) in
+        (λ (p : Contains b (get_or b k 0) × (get_or b k 0 ≡ get_or b i 0)). other (different m.elements m.rank b basis.0 i k l h p.1))
+        (λ (p : (¬ (Contains b (get_or b k 0))) × IsBasis m (with_element (get_or b k 0) (without_element (get_or b i 0) b))). p.0 (inside k h))
+        (here.one.0 one) in
         let small = here.element in
         rw (ne_eqb i k other) (omega arith))
         (cases_eq i k)

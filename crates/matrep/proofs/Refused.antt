@@ -1,5 +1,5 @@
 -- From the answer for a file to the answer for the input.
-use Rattle.std.proofs.Common.{◌≡◌, ℕ, List, subst, Result, Ok, Err, Option, Some, None}
+use Rattle.std.proofs.Common.{◌≡◌, ℕ, List, subst, Result, Ok, Err, Some}
 use Rattle.std.specs.Prelude.{IfOk}
 use Rattle.mr_set.specs.Matroid.{Presentation}
 use Rattle.mr_file.specs.File.{IsFileOf}

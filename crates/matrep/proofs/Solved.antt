@@ -1,20 +1,18 @@
 -- Over two elements the filled matrix is the only representation that is the identity at the first basis.
-use Rattle.std.proofs.Common.{◌≡◌, ◌≢◌, ◌⊎◌, ◌↔◌, ℕ, ◌+◌, ◌≤◌, Bool, true, false, cond, eqb, List, [], ◌∷◌, length, get_or, refl, sym, ap, subst, ◌∙◌, inl, inr, ⊎_elim, arith}
+use Rattle.std.proofs.Common.{◌≡◌, ◌≢◌, ◌↔◌, ℕ, true, false, List, [], ◌∷◌, length, get_or, refl, sym, ap, subst, ◌∙◌, inl, inr, ⊎_elim, arith}
 use Rattle.std.specs.Prelude.{◌<◌, Contains, flat_map}
 use Rattle.std.specs.List.Sorted.{IsStrictlySortedBy}
-use Rattle.std.specs.declared.cmp.Ordering.{Ordering}
 use Rattle.std.specs.declared.cmp.Ordering.TheVariants.{Less, Equal}
 use Rattle.std.proofs.lemmas.Bool.{cases_eq, cases_Bool, both_ways}
 use Rattle.std.proofs.lemmas.Cmp.{tied_itself, nat_list_cmp_total}
 use Rattle.mr_field.specs.Gf.{Gf, gf2, gf3, gf4, gf5, gf7, gf8, gf9, order}
-use Rattle.mr_set.specs.Elements.{IsSet, is_element, with_element, without_element}
-use Rattle.mr_set.specs.Subsets.{IsSetOf, list_cmp}
-use Rattle.mr_set.specs.Matroid.{Presentation, IsMatroid, IsBasis, IsFirstBasis, IsIndependent}
-use Rattle.mr_set.proofs.Members.{Contains-from_element, is_element-from_Contains}
+use Rattle.mr_set.specs.Elements.{is_element, with_element, without_element}
+use Rattle.mr_set.specs.Subsets.{IsSetOf}
+use Rattle.mr_set.specs.Matroid.{Presentation, IsMatroid, IsBasis, IsFirstBasis}
+use Rattle.mr_set.proofs.Members.{is_element-from_Contains}
 use Rattle.mr_set.proofs.Uniqueness.{first_basis-same}
-use Rattle.mr_linear.specs.Matrix.{Grid, IsGrid, height, entry, grid_cmp, AreIndependent, PartIsDependent, PartIsIndependent}
-use Rattle.mr_linear.specs.Operations.{AreEquivalent}
-use Rattle.mr_linear.specs.Representation.{FitsMatroid, Represents, RepresentsBases, HasIdentity, IsStandard, IsChosen, IsMember, IsAnswer}
+use Rattle.mr_linear.specs.Matrix.{Grid, height, entry, grid_cmp, PartIsDependent, PartIsIndependent}
+use Rattle.mr_linear.specs.Representation.{Represents, HasIdentity, IsStandard, IsChosen, IsMember, IsAnswer}
 use Rattle.mr_linear.proofs.Grids.{same_grids, entry-lt}
 use Rattle.mr_linear.proofs.Places.{IsBasisOf-places}
 use Rattle.mr_linear.proofs.Leads.{leads-shape}
@@ -98,7 +96,7 @@ module _ (m : Presentation) (b : List ℕ) (a : Grid) (first : IsFirstBasis m b)
   filled_represents d two represents =
       let at : (n r : ℕ) → n ≡ m.elements → r ≡ m.rank → IsSetOf n r b = λ n r p q. subst (λ (k : ℕ). IsSetOf k r b) (sym p) (subst (λ (k : ℕ). IsSetOf m.elements k b) (sym q) basis.0) in
       let reduced = columns-reduce d b represents.fits.grid (at d.cols (height d) represents.fits.cols represents.fits.rows)
-          ((represents.agrees b basis.0.set).1 (basis-independent m b basis)) in
+      ((represents.agrees b basis.0.set).1 (basis-independent m b basis)) in
       let again = equivalent-represents m d reduced.0 represents reduced.1 in
       let field : reduced.0.field ≡ gf2 = (leads-shape reduced.1.0 d reduced.0 represents.fits.grid reduced.1.1).field ∙ field_of_two d.field two in
       subst (λ (g : Grid). Represents g m) (filled_only reduced.0 again field reduced.2) again
@@ -118,7 +116,7 @@ module _ (m : Presentation) (b : List ℕ) (a : Grid) (first : IsFirstBasis m b)
     standard = filled_standard;
     least = λ d standard equivalent less.
         let same : d ≡ a = standard_only d (equivalent-represents m a d represents equivalent)
-            ((leads-shape equivalent.0 a d filled.fits.grid equivalent.1).field ∙ filled.field) standard in
+        ((leads-shape equivalent.0 a d filled.fits.grid equivalent.1).field ∙ filled.field) standard in
         let itself : grid_cmp a a ≡ Less = subst (λ (g : Grid). grid_cmp g a ≡ Less) same less in
         let tied : grid_cmp a a ≡ Equal = tied_itself nat_list_cmp_total (flat_map (λ (row : List ℕ). row) a.rows) in
         let clash : Less ≡ Equal = sym itself ∙ tied in cc;
@@ -129,8 +127,9 @@ module _ (m : Presentation) (b : List ℕ) (a : Grid) (first : IsFirstBasis m b)
   none_fails matroid none = bases-decide m a matroid (record {
     fits = filled.fits;
     agrees = λ x set. (
-        (λ independent. basis-independent m x (set, λ listed. none x set (inl ((λ is. is.1 listed), (parts m b a x basis filled set).0 independent)))),
-        (λ independent. (parts m b a x basis filled set).1 (λ dependent. none x set (inr (basis-from_independent m x set independent, dependent)))));
+      (λ independent. basis-independent m x (set, λ listed. none x set (inl ((λ is. is.1 listed), (parts m b a x basis filled set).0 independent)))),
+      (λ independent. (parts m b a x basis filled set).1 (λ dependent. none x set (inr (basis-from_independent m x set independent, dependent)))),
+    );
   })
 
   -- where a set fails it doesn't
@@ -149,10 +148,11 @@ module _ (m : Presentation) (b : List ℕ) (a : Grid) (first : IsFirstBasis m b)
   answer_one represents = record {
     increasing = sorted_one a;
     exactly = λ d. (
-        (λ h. let first_place : h.0 ≡ 0 = let lt = h.1 in omega arith in
-            let same : a ≡ d = sym (ap (λ (k : ℕ). get_or (a ∷ []) k d) first_place) ∙ h.2 in
-            subst (IsMember m 2) same (record { field = ap order filled.field; chosen = filled_chosen represents; represents = represents })),
-        (λ member. (0, omega arith, sym (member_only d member))));
+      (λ h. let first_place : h.0 ≡ 0 = let lt = h.1 in omega arith in
+          let same : a ≡ d = sym (ap (λ (k : ℕ). get_or (a ∷ []) k d) first_place) ∙ h.2 in
+          subst (IsMember m 2) same (record { field = ap order filled.field; chosen = filled_chosen represents; represents = represents })),
+      (λ member. (0, omega arith, sym (member_only d member))),
+    );
   }
 
   -- the answer where a set fails

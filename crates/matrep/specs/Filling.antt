@@ -1,5 +1,5 @@
 -- A matrix that is filled entry by entry.
-use Rattle.std.specs.Prelude.{◌≡◌, ◌⊎◌, ◌↔◌, ℕ, ◌+◌, ◌<◌, List, Contains, slice_index}
+use Rattle.std.specs.Prelude.{◌≡◌, ◌⊎◌, ◌↔◌, ℕ, ◌<◌, List, Contains, slice_index}
 use Rattle.mr_field.specs.Gf.{gf2}
 use Rattle.mr_set.specs.Elements.{with_element, without_element}
 use Rattle.mr_set.specs.Matroid.{Presentation, IsBasis}

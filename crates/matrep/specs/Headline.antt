@@ -7,7 +7,7 @@ use Rattle.matrep.specs.Texts.{usage_text}
 use Rattle.matrep.specs.Result.{Allows}
 use Rattle.matrep.specs.declared.TheConstants.{FILE_BYTES}
 use Rattle.matrep.specs.declared.outcome.Exit.{Exit}
-use Rattle.matrep.specs.declared.outcome.Exit.TheVariants.{Done, Negative, Refused, Usage, Memory, ReadFault, WriteFault}
+use Rattle.matrep.specs.declared.outcome.Exit.TheVariants.{Usage, Memory, ReadFault, WriteFault}
 
 -- These bytes were taken: all that was left, or one more than a file may have.
 pub record Takes (old new : Option (List ℕ)) (bytes : List ℕ) : Type 0 where

@@ -1,4 +1,3 @@
-use crate::outcome::Exit;
 use crate::run::run;
 use crate::solve::solve_one;
 use mr_io::{MemSink, MemSource, Silent, Source, SureSource};
@@ -27,15 +26,16 @@ fn strings(alloc: Global, words: &[&str]) -> Result<Vec<String>, Fail> {
     Ok(list)
 }
 
-fn run_on<R: Threads + Wait + Sync, I: Source>(
+// The status of a run.
+fn status_of<R: Threads + Wait + Sync, I: Source>(
     rt: &R,
     alloc: Global,
     words: &[&str],
     source: &mut I,
     sink: &mut MemSink,
-) -> Result<Exit, Fail> {
+) -> Result<u8, Fail> {
     let words = strings(alloc, words)?;
-    Ok(run(rt, alloc, &words, source, sink, &Silent))
+    Ok(run(rt, alloc, &words, source, sink, &Silent).status())
 }
 
 // The status of `solve field=2` on an input that never fails.
@@ -46,8 +46,7 @@ fn solve<R: Threads + Wait + Sync>(
     sink: &mut MemSink,
 ) -> Result<u8, Fail> {
     let mut source = SureSource::new(alloc, input)?;
-    let exit = run_on(rt, alloc, &["solve", "field=2"], &mut source, sink)?;
-    Ok(exit.status())
+    status_of(rt, alloc, &["solve", "field=2"], &mut source, sink)
 }
 
 #[test]
@@ -146,8 +145,7 @@ fn other_words_offend_at_their_place(rt: HostRuntime) -> Result<(), Fail> {
     for (words, text) in cases {
         let mut source = SureSource::new(alloc, FANO)?;
         let mut sink = MemSink::new(alloc, 100, 4096, [].as_slice())?;
-        let exit = run_on(&rt, alloc, words, &mut source, &mut sink)?;
-        assert_eq!(rt; exit.status(), 3);
+        assert_eq!(rt; status_of(&rt, alloc, words, &mut source, &mut sink)?, 3);
         assert_eq!(rt; sink.held(), text);
     }
     Ok(())
@@ -158,8 +156,8 @@ fn a_device_that_fails_ends_the_run(rt: HostRuntime) -> Result<(), Fail> {
     let alloc = rt.alloc();
     let mut source = MemSource::new(alloc, FANO, 100, [1].as_slice())?;
     let mut sink = MemSink::new(alloc, 100, 4096, [].as_slice())?;
-    let exit = run_on(&rt, alloc, &["solve", "field=2"], &mut source, &mut sink)?;
-    assert_eq!(rt; exit.status(), 6);
+    let words = ["solve", "field=2"];
+    assert_eq!(rt; status_of(&rt, alloc, &words, &mut source, &mut sink)?, 6);
     assert_eq!(rt; sink.held(), b"".as_slice());
     let mut sink = MemSink::new(alloc, 8, 4096, [2].as_slice())?;
     assert_eq!(rt; solve(&rt, alloc, FANO, &mut sink)?, 7);

@@ -1,5 +1,5 @@
 -- the filled matrix is the answer where no set fails, and there is none where one does
-use Rattle.std.proofs.Common.{List, ℕ, [], ◌∷◌, refl}
+use Rattle.std.proofs.Common.{[], ◌∷◌, refl}
 use Rattle.matrep.specs.Texts.{answer_text, log_text}
 use Rattle.matrep.specs.Result.{Solves}
 use Rattle.matrep.specs.declared.outcome.Exit.TheVariants.{Done, Negative}
@@ -21,8 +21,7 @@ returns c =
     let filled = c.in_ok-a.ensures in
     let found = c.in-Some.ensures in
     let none = some_fails c.args.m.now c.first_basis-basis.result c.in_ok-a.a first filled c.in-Some.x found.size found.fails in
-    outcome_is (λ o. o.exit) (λ o. o.text) (Solves c.args.m.now) c.negative.result Negative (log_text 2 c.args.m.now c.in-Some.x) c.negative.ensures.exit c.negative.ensures.text
-    (
+    outcome_is (λ o. o.exit) (λ o. o.text) (Solves c.args.m.now) c.negative.result Negative (log_text 2 c.args.m.now c.in-Some.x) c.negative.ensures.exit c.negative.ensures.text (
       c.in-Some.x,
       no_representation c.args.m.now c.first_basis-basis.result c.in_ok-a.a first filled none,
       answer_none c.args.m.now c.first_basis-basis.result c.in_ok-a.a first filled none,

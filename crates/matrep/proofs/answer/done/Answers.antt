@@ -1,5 +1,5 @@
 -- the pieces, one after another, are the answer
-use Rattle.std.proofs.Common.{◌≡◌, ◌∙◌, ap, ◌++◌, ◌∷◌, [], List, ℕ, codes}
+use Rattle.std.proofs.Common.{◌∙◌, ap, ◌++◌, ◌∷◌, [], List, ℕ, codes}
 use Rattle.mr_text.specs.Text.{text_of_lines}
 use Rattle.matrep.specs.Texts.{matrix_lines}
 use Rattle.matrep.proofs.Logs.{answer_pieces}

@@ -1,5 +1,5 @@
 -- the pieces, one after another, are the log
-use Rattle.std.proofs.Common.{◌≡◌, ◌∙◌, ap, ◌++◌, ◌∷◌, [], List, ℕ, codes}
+use Rattle.std.proofs.Common.{◌∙◌, ap, ◌++◌, ◌∷◌, [], List, ℕ, codes}
 use Rattle.mr_text.specs.Text.{set_text}
 use Rattle.mr_file.specs.File.{file_text}
 use Rattle.matrep.proofs.Logs.{log_pieces}

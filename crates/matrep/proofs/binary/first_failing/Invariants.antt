@@ -1,4 +1,3 @@
-use Rattle.std.proofs.Common.{ℕ, List}
 use Rattle.mr_set.specs.Subsets.{IsSetOf}
 use Rattle.mr_set.specs.Enumeration.{weight}
 use Rattle.mr_matroid.proofs.Walk.{Seen}

@@ -1,5 +1,5 @@
 -- an element of the basis exchanged for another leaves a set of elements
-use Rattle.std.proofs.Common.{◌≡◌, ◌∙◌, List, ℕ, ap, sym, subst}
+use Rattle.std.proofs.Common.{◌∙◌, List, ℕ, ap, sym, subst}
 use Rattle.mr_set.specs.Elements.{IsSet, with_element}
 use Rattle.mr_matroid.proofs.Failures.{set_exchanged}
 use Rattle.matrep.proofs.binary.has_one.Goals as goal

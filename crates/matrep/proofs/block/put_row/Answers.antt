@@ -1,6 +1,5 @@
 -- the entries, one after another, are the row
-use Rattle.std.proofs.Common.{◌≡◌, ◌∙◌, ap, sym, subst, length, [], List, ◌++◌, ◌∷◌, arith, get_or, take, append_assoc}
-use Rattle.mr_text.specs.Text.{numbers_text}
+use Rattle.std.proofs.Common.{◌∙◌, ap, [], ◌++◌, arith, get_or}
 use Rattle.matrep.specs.Pieces.{next_number}
 use Rattle.matrep.proofs.Blocks.{written_more, written_line}
 use Rattle.matrep.proofs.block.put_row.Goals as goal

@@ -1,5 +1,5 @@
 -- a file is read as its matroid or refused by its fault
-use Rattle.std.proofs.Common.{◌≡◌, sym, ◌∙◌, refl}
+use Rattle.std.proofs.Common.{sym, ◌∙◌, refl}
 use Rattle.mr_field.specs.Gf.{gf2}
 use Rattle.matrep.specs.Texts.{refusal_text}
 use Rattle.matrep.specs.Result.{AllowsFile}
