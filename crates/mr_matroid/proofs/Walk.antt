@@ -1,8 +1,7 @@
 -- A walk over the sets of one size in order.
-use Rattle.std.proofs.Common.{◌≡◌, ℕ, zero, suc, ◌+◌, ◌≤◌, List, [], ◌∷◌, length, refl, sym, ap, subst, ◌∙◌, arith, inl, inr, ◌⊎◌, Bool, true, false}
+use Rattle.std.proofs.Common.{◌≡◌, ℕ, ◌≤◌, List, length, refl, sym, ap, subst, ◌∙◌, arith, inl, inr, ◌⊎◌}
 use Rattle.std.specs.Prelude.{◌<◌}
 use Rattle.std.specs.Ordering.{is_eq, ordering_reverse}
-use Rattle.std.specs.Str.{bytes_eq}
 use Rattle.std.specs.Cmp.Lexicographic.{same_text}
 use Rattle.std.specs.declared.cmp.Ordering.{Ordering}
 use Rattle.std.specs.declared.cmp.Ordering.TheVariants.{Less, Equal, Greater}
@@ -25,9 +24,11 @@ compare z s = by (list_cmp z s) refl
     by Equal is = inr (inl (same_text z s (sym (sym (is_eq-slice_cmp z s) ∙ ap is_eq is))))
     by Greater is = inr (inr (nat_list_cmp_total.antisymm s z ∙ ap ordering_reverse is))
 
+-- before the first set there is none
 pub seen_first : (n r : ℕ) (s : List ℕ) (P : List ℕ → Type 0) → IsFirst n r s → Seen n r s P
 seen_first n r s P first z is lt = absurd (first.least z is lt)
 
+-- before the next set there is one more
 pub seen_next : (n r : ℕ) (s t : List ℕ) (P : List ℕ → Type 0) → IsSetOf n r s → IsNext n s t → Seen n r s P → P s → Seen n r t P
 seen_next n r s t P set next seen here z is lt = elim (compare z s) [
   | inl before ↦ seen z is before
@@ -37,6 +38,7 @@ seen_next n r s t P set next seen here z is lt = elim (compare z s) [
   ]
 ]
 
+-- up to the last set they are all
 pub seen_last : (n r : ℕ) (s : List ℕ) (P : List ℕ → Type 0) → IsSetOf n r s → IsLast n s → Seen n r s P → P s → (z : List ℕ) → IsSetOf n r z → P z
 seen_last n r s P set last seen here z is = elim (compare z s) [
   | inl before ↦ seen z is before
@@ -46,9 +48,11 @@ seen_last n r s P set last seen here z is = elim (compare z s) [
   ]
 ]
 
+-- the next set is one of the size
 pub next_set : (n r : ℕ) (s t : List ℕ) → IsSetOf n r s → IsNext n s t → IsSetOf n r t
 next_set n r s t set next = subst (λ k. IsSetOf n k t) set.size next.subset
 
+-- fewer sets are left after the next one
 pub next_falls : (n r : ℕ) (s t : List ℕ) → n ≤ 32 → IsSetOf n r s → IsNext n s t → weight t < weight s
 next_falls n r s t limit set next = weight_falls 0 s t (wide s (from_set n r s set)) (wide t (from_set n (length s) t next.subset)) (let h = next.subset.size in h) next.after
   where
