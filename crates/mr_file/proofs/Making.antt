@@ -1,5 +1,5 @@
 -- The matroid of what was read.
-use Rattle.std.proofs.Common.{◌≡◌, ℕ, zero, suc, ◌+◌, ◌-◌, ◌≤◌, List, [], ◌∷◌, ◌++◌, length, drop, refl, sym, ap, subst, ◌∙◌, arith, Result, Ok, Err, length-append, length-drop, take, append_assoc}
+use Rattle.std.proofs.Common.{◌≡◌, ℕ, ◌-◌, ◌≤◌, List, [], ◌∷◌, ◌++◌, length, drop, refl, sym, ap, subst, ◌∙◌, arith, Result, Ok, Err, length-append, length-drop, take, append_assoc}
 use Rattle.std.specs.Prelude.{MatchResult, IfOk, IfErr}
 use Rattle.std.proofs.lemmas.List.{drop_at, take-append-drop}
 use Rattle.mr_set.specs.Matroid.{Presentation, IsMatroid}
@@ -14,6 +14,7 @@ use Rattle.mr_file.specs.Part.{IsPart}
 use Rattle.mr_file.specs.declared.fault.FileFault.{FileFault}
 use Rattle.mr_file.specs.declared.fault.FileFault.TheVariants.{Grammar, Size, NoBasis, Exchange, Memory}
 
+-- a refusal of the matroid's maker is one of the file
 pub refused : (m : Presentation) (fault : MatroidFault) → IsVerdict m (Err fault) → IsRefused m (as_file_fault fault)
 refused m matroid.NoBasis h = h
 refused m (matroid.Exchange b1 b2 x) h = h
@@ -23,14 +24,17 @@ refused m matroid.Memory h = h
 abbrev pub Made : Presentation → Result Presentation FileFault → Type 0
 Made m r = MatchResult r (λ x. (x ≡ m) × IsMatroid x) (IsRefused m)
 
+-- a rest of no bytes
 pub empty : (rest : List ℕ) → length rest ≡ 0 → rest ≡ []
 empty [] is = refl
 empty (b ∷ rest) is = absurd (omega arith)
 
+-- what was made is what the whole text stands for
 pub made_ok : (bytes : List ℕ) (m : Presentation) (rest : List ℕ) (next : ℕ) (r : Result Presentation FileFault) → StandsFor whole_file 1 bytes m rest next → rest ≡ [] → Made m r → IfOk r (λ x. IsTextOf whole_file bytes x × IsMatroid x)
 made_ok bytes m rest next (Ok x) stands none made = ((next, subst (λ (y : Presentation). StandsFor whole_file 1 bytes y [] next) (sym made.0) (subst (λ z. StandsFor whole_file 1 bytes m z next) none stands)), made.1)
 made_ok bytes m rest next (Err e) stands none made = tt
 
+-- a refusal of what the text stands for
 pub refusal : (P : FirstFault Measure → Type 0) (Is : Presentation → Type 0) (m : Presentation) (e : FileFault) → Is m → IsRefused m e → IsRefusal P Is e
 refusal P Is m (Grammar line) is h = absurd h
 refusal P Is m (Size line what) is h = absurd h
@@ -38,6 +42,7 @@ refusal P Is m NoBasis is h = (m, is, h)
 refusal P Is m (Exchange b1 b2 x) is h = (m, is, h)
 refusal P Is m Memory is h = h
 
+-- a refusal of the whole text
 pub made_refusal : (bytes : List ℕ) (m : Presentation) (rest : List ℕ) (next : ℕ) (r : Result Presentation FileFault) → StandsFor whole_file 1 bytes m rest next → rest ≡ [] → Made m r → IfErr r (IsFileRefusal bytes)
 made_refusal bytes m rest next (Ok x) stands none made = tt
 made_refusal bytes m rest next (Err e) stands none made = refusal (IsFirstFaultOf whole_file bytes) (IsTextOf whole_file bytes) m e (next, subst (λ z. StandsFor whole_file 1 bytes m z next) none stands) made
@@ -54,6 +59,7 @@ ends_at bytes start number m rest next within stands =
     let sum = length-append (take start bytes ++ front.0) rest in
     (omega arith, ap (drop (length bytes - length rest)) whole ∙ drop_at (take start bytes ++ front.0) rest (length bytes - length rest) (omega arith))
 
+-- a fault of the lines is a refusal of the part
 pub part_refusal : (number : ℕ) (bytes : List ℕ) (e : FileFault) → Names (IsFirstFault whole_file number bytes) e → IsPartRefusal number bytes e
 part_refusal number bytes (Grammar line) h = h
 part_refusal number bytes (Size line what) h = h
@@ -61,6 +67,7 @@ part_refusal number bytes NoBasis h = absurd h
 part_refusal number bytes (Exchange b1 b2 x) h = absurd h
 part_refusal number bytes Memory h = h
 
+-- what was made is a part of the text
 pub part_is : (bytes : List ℕ) (start number : ℕ) (m given : Presentation) (rest : List ℕ) (next : ℕ) → start ≤ length bytes → StandsFor whole_file number (drop start bytes) m rest next → (given ≡ m) × IsMatroid given
     → IsPart bytes start number (record { matroid = given; after = length bytes - length rest; next_line = next })
 part_is bytes start number m given rest next within stands made =

@@ -5,7 +5,7 @@ use Rattle.mr_matroid.specs.Exchange.{HasNoBasis, IsFirstFailure}
 use Rattle.mr_matroid.proofs.Verdicts.{one_first_failure, basis_of_failure}
 use Rattle.mr_text.specs.Format.{FirstFault, grammar, size, IsTextOf, IsFirstFaultOf}
 use Rattle.mr_text.proofs.OneOutcome.{no_fault_of, one_fault_of}
-use Rattle.mr_file.specs.Reading.{IsFileRefusal, whole_file}
+use Rattle.mr_file.specs.Reading.{whole_file}
 use Rattle.mr_file.specs.Laws.{OneRefusal}
 use Rattle.mr_file.specs.declared.fault.Measure.{Measure}
 use Rattle.mr_file.specs.declared.fault.FileFault.{FileFault}

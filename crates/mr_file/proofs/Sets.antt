@@ -1,45 +1,50 @@
 -- Sets as their numbers with spaces between them.
-use Rattle.std.proofs.Common.{◌≡◌, ℕ, zero, suc, ◌+◌, ◌-◌, ◌≤◌, List, [], ◌∷◌, ◌++◌, length, get_or, refl, sym, ap, subst, ◌∙◌, arith, Option, Some, None, Bool, true, false, cond, inl, inr, ◌⊎◌}
+use Rattle.std.proofs.Common.{◌≡◌, ℕ, zero, suc, ◌+◌, ◌-◌, ◌≤◌, List, [], ◌∷◌, ◌++◌, refl, sym, ap, subst, ◌∙◌, arith, Option, Some, None, false, cond}
 use Rattle.std.specs.Prelude.{codes, ◌<◌, ◌^◌, ◌↔◌, All, decimal, nat_eq, nat_lt}
-use Rattle.std.specs.List.{AllByRecursion}
 use Rattle.std.specs.List.Sorted.{IsStrictlySortedBy}
 use Rattle.std.specs.Ordering.{nat_cmp}
-use Rattle.std.specs.declared.cmp.Ordering.TheVariants.{Less}
-use Rattle.std.proofs.lemmas.Bool.Decides.{nat_tests, Decides-ltb, Decides-eqb}
-use Rattle.mr_set.specs.Elements.{IsSet, is_element, with_element}
-use Rattle.mr_set.specs.Subsets.{IsSetOf}
+use Rattle.std.proofs.lemmas.Bool.Decides.{nat_tests}
+use Rattle.mr_set.specs.Elements.{is_element, with_element}
 use Rattle.mr_set.proofs.Members.{IsBelowAll, less_from_cmp, cmp_from_less}
-use Rattle.mr_text.specs.Text.{numbers_text, set_text}
+use Rattle.mr_text.specs.Text.{numbers_text}
 use Rattle.mr_file.specs.Numbers.{AreNumbersFrom, SpellsSet}
 use Rattle.mr_text.proofs.Formats.{same_parts, has_separator}
 use Rattle.mr_text.proofs.Decimals.{decimal_without}
 
+-- what holds of all holds of the first
 all_head : (P : ℕ → Type 0) (x : ℕ) (xs : List ℕ) → All P (x ∷ xs) → P x
 all_head P x xs all = all 0 x (omega arith)
 
+-- and of the others
 all_tail : (P : ℕ → Type 0) (x : ℕ) (xs : List ℕ) → All P (x ∷ xs) → All P xs
 all_tail P x xs all k d lt = all (suc k) d (omega arith)
 
+-- of the first and the others, so of all
 all_cons : (P : ℕ → Type 0) (x : ℕ) (xs : List ℕ) → P x → All P xs → All P (x ∷ xs)
 all_cons P x xs here rest zero d lt = here
 all_cons P x xs here rest (suc k) d lt = rest k d (omega arith)
 
+-- a lesser number stands before all
 below_all : (e : ℕ) (xs : List ℕ) → All (λ x. e + 1 ≤ x) xs → IsBelowAll e xs
 below_all e [] all = tt
 below_all e (x ∷ xs) all = (cmp_from_less e x (let h = all_head (λ y. e + 1 ≤ y) x xs all in omega arith), below_all e xs (all_tail (λ y. e + 1 ≤ y) x xs all))
 
+-- and what it stands before is greater
 all_above : (e : ℕ) (xs : List ℕ) → IsBelowAll e xs → All (λ x. e + 1 ≤ x) xs
 all_above e [] below = λ k d lt. absurd (omega arith)
 all_above e (x ∷ xs) below = all_cons (λ y. e + 1 ≤ y) x xs (let h = less_from_cmp e x below.0 in omega arith) (all_above e xs below.1)
 
+-- a lesser number in front
 sorted_cons : (e : ℕ) (xs : List ℕ) → IsBelowAll e xs → IsStrictlySortedBy nat_cmp xs → IsStrictlySortedBy nat_cmp (e ∷ xs)
 unfolding IsStrictlySortedBy
 sorted_cons e xs below sorted = (below, sorted)
 
+-- the first number and the others
 sorted_parts : (e : ℕ) (xs : List ℕ) → IsStrictlySortedBy nat_cmp (e ∷ xs) → IsBelowAll e xs × IsStrictlySortedBy nat_cmp xs
 unfolding IsStrictlySortedBy
 sorted_parts e xs sorted = (sorted.0, sorted.1)
 
+-- no numbers
 sorted_none : IsStrictlySortedBy nat_cmp []
 unfolding IsStrictlySortedBy
 sorted_none = tt
@@ -63,6 +68,7 @@ one low n word [] are = let e = are.set.size in absurd (omega arith)
 one low n word (y ∷ []) are = (y, refl, are.text, all_head (λ e. low ≤ e) y [] are.from, all_head (λ e. e < n) y [] are.set.set.elements)
 one low n word (y ∷ z ∷ zs) are = let e = are.set.size in absurd (omega arith)
 
+-- the word of the last element, which is read
 pub last_found : (low n e : ℕ) (word : List ℕ) (r : Option ℕ) → n ≤ 32 → Reads r word → r ≡ Some e → low ≤ e → e < n → (x : List ℕ) → (Some (with_element e []) ≡ Some x) ↔ AreNumbersFrom low n 1 word x
 last_found low n e word r limit reads is from within x = (
   λ same. subst (AreNumbersFrom low n 1 word) (let h : e ∷ [] ≡ x = cc in h) record {
@@ -78,6 +84,7 @@ last_found low n e word r limit reads is from within x = (
       ap Some (ap (λ k. k ∷ []) same ∙ sym found.1),
 )
 
+-- a word that is no number
 pub last_none : (low n : ℕ) (word : List ℕ) (r : Option ℕ) → n ≤ 32 → Reads r word → r ≡ None → (x : List ℕ) → (◌≡◌ {A = Option (List ℕ)} None (Some x)) ↔ AreNumbersFrom low n 1 word x
 last_none low n word r limit reads is x = (
   λ same. cc,
@@ -87,6 +94,7 @@ last_none low n word r limit reads is x = (
       cc,
 )
 
+-- a number that is too small or too large
 pub last_out : (low n e : ℕ) (word : List ℕ) (r : Option ℕ) → n ≤ 32 → Reads r word → r ≡ Some e → ((low ≤ e) × (e < n) → ⊥) → (x : List ℕ) → (◌≡◌ {A = Option (List ℕ)} None (Some x)) ↔ AreNumbersFrom low n 1 word x
 last_out low n e word r limit reads is out x = (
   λ same. cc,
@@ -143,6 +151,7 @@ pub record FirstOf (low n k : ℕ) (word rest x : List ℕ) : Type 0 where
   pub within : first < n
   pub more : AreNumbersFrom (first + 1) n k rest others
 
+-- the first word is the first number
 pub split_first : (low n k : ℕ) (line word rest x : List ℕ) → n ≤ 32 → line ≡ word ++ 32 ∷ rest → is_element word 32 ≡ false → AreNumbersFrom low n (suc (suc k)) line x → FirstOf low n (suc k) word rest x
 split_first low n k line word rest x limit is none are =
     let found = first_of_more low n k line x are in
@@ -171,6 +180,7 @@ unsplit low n count k line is none x = (
       cc,
 )
 
+-- a first word that is no number
 pub first_none : (low n count k : ℕ) (line word rest : List ℕ) (r : Option ℕ) → n ≤ 32 → count ≡ suc (suc k) → line ≡ word ++ 32 ∷ rest → is_element word 32 ≡ false → Reads r word → r ≡ None → (x : List ℕ) → (◌≡◌ {A = Option (List ℕ)} None (Some x)) ↔ AreNumbersFrom low n count line x
 first_none low n count k line word rest r limit is line_is none reads nothing x = (
   λ same. cc,
@@ -180,6 +190,7 @@ first_none low n count k line word rest r limit is line_is none reads nothing x 
       cc,
 )
 
+-- a first number that is too small or too large
 pub first_out : (low n count k e : ℕ) (line word rest : List ℕ) (r : Option ℕ) → n ≤ 32 → count ≡ suc (suc k) → line ≡ word ++ 32 ∷ rest → is_element word 32 ≡ false → Reads r word → r ≡ Some e → ((low ≤ e) × (e < n) → ⊥) → (x : List ℕ) → (◌≡◌ {A = Option (List ℕ)} None (Some x)) ↔ AreNumbersFrom low n count line x
 first_out low n count k e line word rest r limit is line_is none reads some out x = (
   λ same. cc,
@@ -190,9 +201,11 @@ first_out low n count k e line word rest r limit is line_is none reads some out 
       absurd (out (subst (λ j. low ≤ j) same found.from, subst (λ j. j < n) same found.within)),
 )
 
+-- what the reader of the other numbers says
 abbrev Inner : ℕ → ℕ → ℕ → List ℕ → Option (List ℕ) → Type 0
 Inner low n k rest inner = (z : List ℕ) → (inner ≡ Some z) ↔ AreNumbersFrom low n k rest z
 
+-- the other numbers aren't spelled
 pub others_none : (low n count k e : ℕ) (line word rest : List ℕ) (r : Option ℕ) (inner : Option (List ℕ)) → n ≤ 32 → count ≡ suc (suc k) → line ≡ word ++ 32 ∷ rest → is_element word 32 ≡ false → Reads r word → r ≡ Some e → Inner (e + 1) n (count - 1) rest inner → inner ≡ None → (x : List ℕ) → (◌≡◌ {A = Option (List ℕ)} None (Some x)) ↔ AreNumbersFrom low n count line x
 others_none low n count k e line word rest r inner limit is line_is none reads some answers nothing x = (
   λ same. cc,
@@ -206,6 +219,7 @@ others_none low n count k e line word rest r inner limit is line_is none reads s
       cc,
 )
 
+-- the other numbers are read
 pub others_found : (low n count k e : ℕ) (line word rest others : List ℕ) (r : Option ℕ) (inner : Option (List ℕ)) → n ≤ 32 → count ≡ suc (suc k) → line ≡ word ++ 32 ∷ rest → is_element word 32 ≡ false → Reads r word → r ≡ Some e → (low ≤ e) × (e < n) → Inner (e + 1) n (count - 1) rest inner → inner ≡ Some others → (x : List ℕ) → (Some (with_element e others) ≡ Some x) ↔ AreNumbersFrom low n count line x
 others_found low n count k e line word rest others r inner limit is line_is none reads some within answers got x = (
   λ same.
@@ -241,10 +255,12 @@ set_line n r line (y ∷ ys) result some answers = (
   λ are. (answers (y ∷ ys)).1 (record { set = are.set; from = λ k d lt. omega arith; text = are.text }),
 )
 
+-- the line `-` is the empty set
 pub empty_line : (n r : ℕ) (line x : List ℕ) → r ≡ 0 → line ≡ codes "-" → (◌≡◌ {A = Option (List ℕ)} (Some []) (Some x)) ↔ SpellsSet n r line x
 empty_line n r line [] none is = (λ _. record { set = record { set = record { increasing = sorted_none; elements = λ k d lt. absurd (omega arith) }; size = sym none }; text = is }, λ _. refl)
 empty_line n r line (y ∷ ys) none is = (λ same. cc, λ are. let e = are.set.size in absurd (omega arith))
 
+-- no other line is
 pub other_line : (n r : ℕ) (line x : List ℕ) → r ≡ 0 → (line ≡ codes "-" → ⊥) → (◌≡◌ {A = Option (List ℕ)} None (Some x)) ↔ SpellsSet n r line x
 other_line n r line [] none differs = (λ same. cc, λ are. absurd (differs are.text))
 other_line n r line (y ∷ ys) none differs = (λ same. cc, λ are. let e = are.set.size in absurd (omega arith))

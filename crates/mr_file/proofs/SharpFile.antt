@@ -1,37 +1,39 @@
 -- A line of a matroid file spells one value.
-use Rattle.std.proofs.Common.{◌≡◌, ℕ, zero, suc, ◌+◌, ◌≤◌, List, [], ◌∷◌, ◌++◌, length, refl, sym, ap, subst, ◌∙◌, inl, inr, arith, Option, Some, None, codes, Bool, true, false, ◌||◌}
-use Rattle.std.specs.Prelude.{◌<◌, ◌^◌, All, decimal, nat_eq}
+use Rattle.std.proofs.Common.{◌≡◌, ℕ, zero, suc, ◌≤◌, List, [], ◌∷◌, ◌++◌, length, refl, sym, ap, ◌∙◌, arith, Option, Some, None, codes}
+use Rattle.std.specs.Prelude.{◌<◌, ◌^◌, All, decimal}
 use Rattle.std.specs.Str.Parse.{digits_value}
 use Rattle.std.proofs.lemmas.List.{append_cancel_left}
-use Rattle.std.proofs.lemmas.Fmt.{digits_value-decimal, decimal_nonempty, decimal_digit}
+use Rattle.std.proofs.lemmas.Fmt.{digits_value-decimal}
 use Rattle.mr_set.specs.Elements.{is_element}
-use Rattle.mr_set.specs.Matroid.{Presentation}
-use Rattle.mr_set.specs.Subsets.{IsSetOf, choose}
-use Rattle.mr_set.specs.declared.TheConstants.{ELEMENTS, SETS}
-use Rattle.mr_text.specs.Text.{numbers_text, set_text, Lacks}
-use Rattle.mr_text.specs.Format.{Table, Format, done, line_of}
-use Rattle.mr_text.specs.Tables.{never, fixed, keyed}
+use Rattle.mr_set.specs.Subsets.{IsSetOf}
+use Rattle.mr_set.specs.declared.TheConstants.{ELEMENTS}
+use Rattle.mr_text.specs.Text.{numbers_text, set_text}
+use Rattle.mr_text.specs.Tables.{fixed, keyed}
 use Rattle.mr_text.specs.Sharp.{IsSharpTable, IsSharp}
 use Rattle.mr_text.proofs.Formats.{same_parts, has_separator}
 use Rattle.mr_text.proofs.Decimals.{own, decimal_without}
-use Rattle.mr_file.specs.File.{ElementsExceed, RankExceeds, CountExceeds, IsSetLine, set_table, set_lines}
-use Rattle.mr_file.specs.Reading.{end_line, from_sets, whole_file}
+use Rattle.mr_file.specs.File.{ElementsExceed, RankExceeds, CountExceeds, set_lines}
+use Rattle.mr_file.specs.Reading.{from_sets, whole_file}
 use Rattle.mr_file.specs.declared.fault.Measure.{Measure}
 use Rattle.mr_file.specs.declared.fault.Measure.TheVariants.{Elements, Rank, Sets, Nonbases}
 use Rattle.mr_file.proofs.Whole.{at_most}
 
+-- a word spells one number
 decimal_one : (v w : ℕ) → v < 10 ^ 9 → w < 10 ^ 9 → decimal v ≡ decimal w → v ≡ w
 decimal_one v w p q same = sym (digits_value-decimal own v (omega arith)) ∙ ap (digits_value 10) same ∙ digits_value-decimal own w (omega arith)
 
+-- a line of a fixed text
 fixed_sharp : {M : Type 0} (text : List ℕ) → IsSharpTable (fixed {M = M} text)
 fixed_sharp text = record { one_value = λ line a b p q. refl; one_measure = λ a m n p q. absurd p }
 
+-- a line of a key and a number
 keyed_sharp : (key : List ℕ) (exceeds : ℕ → Measure → Type 0) → ((v : ℕ) (m n : Measure) → exceeds v m → exceeds v n → m ≡ n) → IsSharpTable (keyed key exceeds)
 keyed_sharp key exceeds one = record {
   one_value = λ line v w p q. decimal_one v w p.0 q.0 (append_cancel_left key (decimal v) (decimal w) (sym p.1 ∙ q.1));
   one_measure = one;
 }
 
+-- a number of elements is too large by one measure
 elements_one : (v : ℕ) (m n : Measure) → ElementsExceed v m → ElementsExceed v n → m ≡ n
 elements_one v Elements Elements p q = refl
 elements_one v Elements Rank p q = absurd q
@@ -41,6 +43,7 @@ elements_one v Rank n p q = absurd p
 elements_one v Sets n p q = absurd p
 elements_one v Nonbases n p q = absurd p
 
+-- so is a rank
 rank_one : (k v : ℕ) (m n : Measure) → RankExceeds k v m → RankExceeds k v n → m ≡ n
 rank_one k v Elements n p q = absurd p
 rank_one k v Rank Elements p q = absurd q
@@ -53,6 +56,7 @@ rank_one k v Sets Sets p q = refl
 rank_one k v Sets Nonbases p q = absurd q
 rank_one k v Nonbases n p q = absurd p
 
+-- so is a number of nonbases
 count_one : (k r v : ℕ) (m n : Measure) → CountExceeds k r v m → CountExceeds k r v n → m ≡ n
 count_one k r v Elements n p q = absurd p
 count_one k r v Rank n p q = absurd p
@@ -62,18 +66,22 @@ count_one k r v Nonbases Rank p q = absurd q
 count_one k r v Nonbases Sets p q = absurd q
 count_one k r v Nonbases Nonbases p q = refl
 
+-- the first element has at most nine digits
 small_head : (x : ℕ) (xs : List ℕ) → All (λ e. e < 32) (x ∷ xs) → x < 10 ^ 9
 small_head x xs all = let h = all 0 x (omega arith) in omega arith
 
+-- the others are small too
 small_tail : (x : ℕ) (xs : List ℕ) → All (λ e. e < 32) (x ∷ xs) → All (λ e. e < 32) xs
 small_tail x xs all k d lt = all (suc k) d (omega arith)
 
+-- one number is no longer listing
 lone : (e f : ℕ) (rest : List ℕ) → e < 10 ^ 9 → decimal e ≡ decimal f ++ 32 ∷ rest → ⊥
 lone e f rest small same =
     let yes = has_separator 32 (decimal f) rest in
     let never_one = decimal_without 32 e (omega arith) small in
     let h = ap (λ w. is_element w 32) same in cc
 
+-- a listing stands for its numbers alone
 numbers_one : (x y : List ℕ) → length x ≡ length y → All (λ e. e < 32) x → All (λ e. e < 32) y → numbers_text x ≡ numbers_text y → x ≡ y
 numbers_one [] [] size p q same = refl
 numbers_one [] (f ∷ fs) size p q same = absurd (omega arith)
@@ -89,6 +97,7 @@ numbers_one (e ∷ d ∷ es) (f ∷ g ∷ fs) size p q same =
     let tail = numbers_one (d ∷ es) (g ∷ fs) (omega arith) (small_tail e (d ∷ es) p) (small_tail f (g ∷ fs) q) parts.1 in
     ap (λ k. k ∷ d ∷ es) head ∙ ap (λ w. f ∷ w) tail
 
+-- a line stands for one set
 set_one : (n r : ℕ) (x y : List ℕ) → n ≤ 32 → IsSetOf n r x → IsSetOf n r y → set_text x ≡ set_text y → x ≡ y
 set_one n r [] [] limit p q same = refl
 set_one n r [] (f ∷ fs) limit p q same = let a = p.size in let b = q.size in absurd (omega arith)
@@ -96,6 +105,7 @@ set_one n r (e ∷ es) [] limit p q same = let a = p.size in let b = q.size in a
 set_one n r (e ∷ es) (f ∷ fs) limit p q same =
     numbers_one (e ∷ es) (f ∷ fs) (p.size ∙ sym q.size) (λ k d lt. let h = p.set.elements k d lt in omega arith) (λ k d lt. let h = q.set.elements k d lt in omega arith) same
 
+-- the lines of sets
 sets_sharp : (n r k : ℕ) (sets : List (List ℕ)) (last : Option (List ℕ)) → n ≤ 32 → IsSharp (from_sets n r k sets last)
 unfolding set_lines
 sets_sharp n r zero sets last limit = (fixed_sharp (codes "end"), λ line a spelled fits. tt)
@@ -104,6 +114,7 @@ sets_sharp n r (suc k) sets last limit = (
   λ line x spelled fits. sets_sharp n r k (sets ++ x ∷ []) (Some x) limit,
 )
 
+-- the lines of a matroid file
 pub file_sharp : IsSharp whole_file
 file_sharp = (
   fixed_sharp (codes "matroid 1"),

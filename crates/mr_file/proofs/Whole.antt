@@ -1,5 +1,5 @@
 -- The text of a whole file.
-use Rattle.std.proofs.Common.{◌≡◌, ℕ, zero, suc, ◌+◌, ◌≤◌, List, [], ◌∷◌, ◌++◌, length, get_or, map, refl, sym, ap, subst, ◌∙◌, inl, inr, arith, Option, Some, None, append_assoc, append-nil, codes}
+use Rattle.std.proofs.Common.{◌≡◌, ℕ, zero, suc, ◌+◌, ◌≤◌, List, [], ◌∷◌, ◌++◌, length, map, refl, sym, ap, subst, ◌∙◌, inl, inr, arith, Option, Some, None, append_assoc, append-nil, codes}
 use Rattle.std.specs.Prelude.{◌<◌, ◌^◌, All, IfSome, decimal}
 use Rattle.std.specs.List.{AllByRecursion}
 use Rattle.std.specs.List.Sorted.{IsStrictlySortedBy}
@@ -14,13 +14,14 @@ use Rattle.mr_text.proofs.Formats.{lacks-append}
 use Rattle.mr_text.proofs.Decimals.{decimal_without}
 use Rattle.mr_set.proofs.Counting.{no_more_sets}
 use Rattle.mr_file.proofs.Outcomes.{elements_fit, rank_fits, count_fits}
-use Rattle.mr_text.specs.Format.{Format, done, line_of, IsLineOf, StandsFor}
+use Rattle.mr_text.specs.Format.{IsLineOf, StandsFor}
 use Rattle.mr_text.specs.Tables.{fixed, keyed}
-use Rattle.mr_file.specs.File.{ElementsExceed, RankExceeds, CountExceeds, set_table, set_lines, file_text}
-use Rattle.mr_file.specs.Reading.{end_line, from_sets, whole_file}
+use Rattle.mr_file.specs.File.{ElementsExceed, RankExceeds, CountExceeds, set_lines, file_text}
+use Rattle.mr_file.specs.Reading.{from_sets, whole_file}
 use Rattle.mr_file.specs.declared.fault.Measure.{Measure}
-use Rattle.mr_file.specs.declared.fault.Measure.TheVariants.{Elements, Rank, Sets, Nonbases}
+use Rattle.mr_file.specs.declared.fault.Measure.TheVariants.{Elements, Rank, Sets}
 
+-- sets in order
 abbrev Sorted : List (List ℕ) → Type 0
 Sorted sets = IsStrictlySortedBy list_cmp sets
 
@@ -29,27 +30,33 @@ SortedAfter : Option (List ℕ) → List (List ℕ) → Type 0
 SortedAfter None sets = Sorted sets
 SortedAfter (Some y) sets = Sorted (y ∷ sets)
 
+-- what stands before the first stands before all
 before_all : (x y : List ℕ) (sets : List (List ℕ)) → IsBefore x y → AllByRecursion (λ z. IsBefore y z) sets → AllByRecursion (λ z. IsBefore x z) sets
 before_all x y [] lt all = tt
 before_all x y (z ∷ sets) lt all = (nat_list_cmp_total.trans x y z lt all.0, before_all x y sets lt all.1)
 
+-- no sets are in order
 after_none : (last : Option (List ℕ)) → SortedAfter last []
 unfolding SortedAfter IsStrictlySortedBy
 after_none None = tt
 after_none (Some y) = (tt, tt)
 
+-- a set after the last one, in front of those after it
 after_cons : (last : Option (List ℕ)) (x : List ℕ) (sets : List (List ℕ)) → IfSome last (λ y. IsBefore y x) → SortedAfter (Some x) sets → SortedAfter last (x ∷ sets)
 unfolding SortedAfter IsStrictlySortedBy
 after_cons None x sets lt sorted = sorted
 after_cons (Some y) x sets lt sorted = ((lt, before_all y x sets lt sorted.0), sorted)
 
+-- where there is no last one they are in order
 after_sorted : (sets : List (List ℕ)) → SortedAfter None sets → Sorted sets
 unfolding SortedAfter
 after_sorted sets sorted = sorted
 
+-- of no sets
 all_none : (P : List ℕ → Type 0) → All P []
 all_none P k d lt = absurd (omega arith)
 
+-- of the first set and the others
 all_cons : (P : List ℕ → Type 0) (x : List ℕ) (sets : List (List ℕ)) → P x → All P sets → All P (x ∷ sets)
 all_cons P x sets here rest zero d lt = here
 all_cons P x sets here rest (suc k) d lt = rest k d (omega arith)
@@ -64,9 +71,11 @@ record SetsRead (n r k : ℕ) (sets : List (List ℕ)) (last : Option (List ℕ)
   text : bytes ≡ text_of_lines (map set_text more ++ codes "end" ∷ []) ++ rest
   numbers : next ≡ number + k + 1
 
+-- a line, the rest and what follows
 line_text : (line rest tail : List ℕ) → line ++ 10 ∷ (rest ++ tail) ≡ ((line ++ 10 ∷ []) ++ rest) ++ tail
 line_text line rest tail = sym (append_assoc (line ++ 10 ∷ []) rest tail ∙ append_assoc line (10 ∷ []) (rest ++ tail))
 
+-- the lines of sets and the last line were those of a file
 sets_read : (n r k : ℕ) (sets : List (List ℕ)) (last : Option (List ℕ)) (number : ℕ) (bytes : List ℕ) (m : Presentation) (rest : List ℕ) (next : ℕ) → StandsFor (from_sets n r k sets last) number bytes m rest next → SetsRead n r k sets last number bytes m rest next
 unfolding set_lines
 sets_read n r zero sets last number bytes m rest next (u, after, line, (is, same, at)) = record {
@@ -97,6 +106,7 @@ pub record FileRead (number : ℕ) (bytes : List ℕ) (m : Presentation) (rest :
   pub limits : IsWithinLimits m
   pub numbers : next ≡ number + 5 + length m.nonbases
 
+-- the four lines of the head, the rest and what follows
 head_text : (a b c d rest tail : List ℕ) → a ++ 10 ∷ (b ++ 10 ∷ (c ++ 10 ∷ (d ++ 10 ∷ (rest ++ tail)))) ≡ ((a ++ 10 ∷ []) ++ ((b ++ 10 ∷ []) ++ ((c ++ 10 ∷ []) ++ ((d ++ 10 ∷ []) ++ rest)))) ++ tail
 head_text a b c d rest tail =
     ap (λ w. a ++ 10 ∷ (b ++ 10 ∷ (c ++ 10 ∷ w))) (line_text d rest tail)
@@ -104,9 +114,11 @@ head_text a b c d rest tail =
     ∙ ap (λ w. a ++ 10 ∷ w) (line_text b ((c ++ 10 ∷ []) ++ ((d ++ 10 ∷ []) ++ rest)) tail)
     ∙ line_text a ((b ++ 10 ∷ []) ++ ((c ++ 10 ∷ []) ++ ((d ++ 10 ∷ []) ++ rest))) tail
 
+-- what isn't greater is at most as great
 pub at_most : (a b : ℕ) → (a < b → ⊥) → b ≤ a
 at_most a b no_less = elim (cases_lt a b) [ inl lt ↦ absurd (no_less lt) | inr le ↦ le ]
 
+-- the lines of a file were its text
 pub file_read : (number : ℕ) (bytes : List ℕ) (m : Presentation) (rest : List ℕ) (next : ℕ) → StandsFor whole_file number bytes m rest next → FileRead number bytes m rest next
 file_read number bytes m rest next (u, r1, l1, (n, r2, l2, (r, r3, l3, (k, r4, l4, lines)))) =
     let s = sets_read n r k [] None (number + 1 + 1 + 1 + 1) r4 m rest next lines in
@@ -132,14 +144,17 @@ keyed_line key v exceeds tail whole small fits = record {
   fits = fits;
 }
 
+-- a line of a fixed text
 fixed_line : (text tail : List ℕ) → Lacks 10 text → IsLineOf (fixed {M = Measure} text) (text ++ 10 ∷ tail) tt tail
 fixed_line text tail whole = record { line = text; begins = record { text = refl; whole = whole }; spelled = refl; fits = λ m h. h }
 
+-- numbers hold no newline
 numbers_lack : (x : List ℕ) → All (λ e. e < 32) x → Lacks 10 (numbers_text x)
 numbers_lack [] small = refl
 numbers_lack (e ∷ []) small = decimal_without 10 e (omega arith) (let h = small 0 e (omega arith) in omega arith)
 numbers_lack (e ∷ f ∷ es) small = lacks-append 10 (decimal e) (32 ∷ numbers_text (f ∷ es)) (decimal_without 10 e (omega arith) (let h = small 0 e (omega arith) in omega arith)) (numbers_lack (f ∷ es) (λ k d lt. small (suc k) d (omega arith)))
 
+-- nor does a set
 set_lacks : (n r : ℕ) (x : List ℕ) → n ≤ 32 → IsSetOf n r x → Lacks 10 (set_text x)
 set_lacks n r [] limit is = refl
 set_lacks n r (e ∷ es) limit is = numbers_lack (e ∷ es) (λ k d lt. let h = is.set.elements k d lt in omega arith)
@@ -150,6 +165,7 @@ unfolding SortedAfter IsStrictlySortedBy
 first_after None x sets sorted = (tt, sorted)
 first_after (Some y) x sets sorted = (sorted.0.0, sorted.1)
 
+-- the lines of sets stand for them
 sets_stand : (n r : ℕ) (done_sets more : List (List ℕ)) (last : Option (List ℕ)) (number : ℕ) (rest : List ℕ) → n ≤ 32 → All (IsSetOf n r) more → SortedAfter last more
     → StandsFor (from_sets n r (length more) done_sets last) number (text_of_lines (map set_text more ++ codes "end" ∷ []) ++ rest) (record { elements = n; rank = r; nonbases = done_sets ++ more }) rest (number + length more + 1)
 unfolding set_lines
@@ -173,10 +189,12 @@ sets_stand n r done_sets (x ∷ more) last number rest limit all sorted =
           (append_assoc done_sets (x ∷ []) more) tail),
     )
 
+-- sets in order after none
 sorted_after : (sets : List (List ℕ)) → Sorted sets → SortedAfter None sets
 unfolding SortedAfter
 sorted_after sets sorted = sorted
 
+-- the text of a file stands for its numbers and sets
 pub file_stands : (number : ℕ) (m : Presentation) (rest : List ℕ) → IsPresentation m → IsWithinLimits m → StandsFor whole_file number (file_text m ++ rest) m rest (number + 1 + 1 + 1 + 1 + length m.nonbases + 1)
 file_stands number m rest is limits =
     let count = no_more_sets m.elements m.rank m.nonbases is.sets is.increasing in

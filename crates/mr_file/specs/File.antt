@@ -5,7 +5,7 @@ use Rattle.mr_set.specs.Subsets.{IsSetOf, IsBefore, choose}
 use Rattle.mr_set.specs.declared.TheConstants.{ELEMENTS, SETS}
 use Rattle.mr_matroid.specs.Exchange.{IsWithinLimits}
 use Rattle.mr_text.specs.Text.{set_text, text_of_lines}
-use Rattle.mr_text.specs.Format.{Table, Format, done, line_of}
+use Rattle.mr_text.specs.Format.{Table, Format, line_of}
 use Rattle.mr_text.specs.Tables.{never, fixed, keyed}
 use Rattle.mr_file.specs.declared.fault.Measure.{Measure}
 use Rattle.mr_file.specs.declared.fault.Measure.TheVariants.{Elements, Rank, Sets, Nonbases}

@@ -1,8 +1,8 @@
 -- What the readers of a matroid file answer.
-use Rattle.std.specs.Prelude.{◌≡◌, ◌⊎◌, ℕ, ◌+◌, ◌≤◌, List, [], ◌∷◌, length, codes, drop, Option, None, Result, Ok, Err}
-use Rattle.mr_set.specs.Matroid.{Presentation, IsMatroid}
+use Rattle.std.specs.Prelude.{ℕ, List, [], codes, Option, None}
+use Rattle.mr_set.specs.Matroid.{Presentation}
 use Rattle.mr_matroid.specs.Exchange.{HasNoBasis, IsFirstFailure}
-use Rattle.mr_text.specs.Format.{FirstFault, grammar, size, Table, Format, done, line_of, IsLineOf, IsLineFault, IsFirstFault, StandsFor, IsTextOf, IsFirstFaultOf}
+use Rattle.mr_text.specs.Format.{FirstFault, grammar, size, Format, done, line_of, IsFirstFault, StandsFor, IsTextOf, IsFirstFaultOf}
 use Rattle.mr_text.specs.Tables.{fixed, keyed}
 use Rattle.mr_file.specs.File.{ElementsExceed, RankExceeds, CountExceeds, set_lines, file}
 use Rattle.mr_file.specs.declared.fault.Measure.{Measure}
@@ -24,19 +24,23 @@ Names P Memory = Unit {0}
 abbrev pub listing : Listed → Presentation
 listing m = record { elements = m.elements; rank = m.rank; nonbases = m.nonbases.items }
 
--- what is due after each line but the first
+-- what is due after the last set
 abbrev pub end_line : ℕ → ℕ → List (List ℕ) → Format Measure Presentation
 end_line n r sets = line_of (fixed (codes "end")) (λ _. done (record { elements = n; rank = r; nonbases = sets }))
 
+-- after the number of nonbases, and after some sets
 abbrev pub from_sets : ℕ → ℕ → ℕ → List (List ℕ) → Option (List ℕ) → Format Measure Presentation
 from_sets n r count sets last = set_lines n r count sets last (end_line n r)
 
+-- after the rank
 abbrev pub from_count : ℕ → ℕ → Format Measure Presentation
 from_count n r = line_of (keyed (codes "nonbases ") (CountExceeds n r)) (λ k. from_sets n r k [] None)
 
+-- after the number of elements
 abbrev pub from_rank : ℕ → Format Measure Presentation
 from_rank n = line_of (keyed (codes "rank ") (RankExceeds n)) (λ r. from_count n r)
 
+-- after the first line
 abbrev pub from_elements : Format Measure Presentation
 from_elements = line_of (keyed (codes "elements ") ElementsExceed) (λ n. from_rank n)
 

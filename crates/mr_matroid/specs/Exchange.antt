@@ -1,8 +1,8 @@
 -- The first exchange that fails.
-use Rattle.std.specs.Prelude.{◌≡◌, ℕ, ◌+◌, ◌<◌, ◌≤◌, List, length, Contains}
-use Rattle.mr_set.specs.Elements.{IsSubset, meet, with_element, without_element}
-use Rattle.mr_set.specs.Subsets.{IsSetOf, IsBefore, choose}
-use Rattle.mr_set.specs.Matroid.{Presentation, IsPresentation, IsBasis, FailsExchange}
+use Rattle.std.specs.Prelude.{ℕ, ◌≤◌, List, Contains}
+use Rattle.mr_set.specs.Elements.{with_element, without_element}
+use Rattle.mr_set.specs.Subsets.{IsBefore, choose}
+use Rattle.mr_set.specs.Matroid.{Presentation, IsBasis, FailsExchange}
 use Rattle.mr_set.specs.declared.TheConstants.{ELEMENTS, SETS}
 
 -- a matroid of this size can be held
@@ -25,19 +25,21 @@ pub record IsFirstFailure (m : Presentation) (b1 b2 : List ℕ) (x : ℕ) : Type
   pub second : (c2 : List ℕ) (y : ℕ) → FailsExchange m b1 c2 y → ¬ (IsBefore c2 b2)
   pub element : (y : ℕ) → FailsExchange m b1 b2 y → x ≤ y
 
--- the same for one b1, and for one b1 and b2
+-- the exchange fails, and none does with this b1 and an earlier b2, or with these and a lesser x
 pub record IsFirstSecond (m : Presentation) (b1 b2 : List ℕ) (x : ℕ) : Type 0 where
   pub fails : FailsExchange m b1 b2 x
   pub second : (c2 : List ℕ) (y : ℕ) → FailsExchange m b1 c2 y → ¬ (IsBefore c2 b2)
   pub element : (y : ℕ) → FailsExchange m b1 b2 y → x ≤ y
 
+-- the exchange fails, and none does with these bases and a lesser x
 pub record IsFirstElement (m : Presentation) (b1 b2 : List ℕ) (x : ℕ) : Type 0 where
   pub fails : FailsExchange m b1 b2 x
   pub element : (y : ℕ) → FailsExchange m b1 b2 y → x ≤ y
 
--- no basis has the element, and each has it
+-- no basis has the element
 abbrev pub IsLoop : Presentation → ℕ → Type 0
 IsLoop m e = (b : List ℕ) → IsBasis m b → ¬ (Contains b e)
 
+-- each basis has the element
 abbrev pub IsColoop : Presentation → ℕ → Type 0
 IsColoop m e = (b : List ℕ) → IsBasis m b → Contains b e

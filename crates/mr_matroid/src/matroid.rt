@@ -30,7 +30,7 @@ impl Model for Matroid {
 }
 
 impl Matroid {
-    /// The matroid on `n` elements of rank `r` with these nonbases.
+    /// The matroid on `n` elements of rank `r` with these nonbases. It keeps a copy of them.
     pub fn from_nonbases(
         alloc: Global,
         n: u32,

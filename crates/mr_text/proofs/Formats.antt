@@ -8,10 +8,12 @@ use Rattle.mr_text.specs.Text.{Lacks, BeginsWith}
 use Rattle.mr_text.specs.Format.{FirstFault, grammar, size, Table, Format, done, line_of, IsLineOf, IsCutShort, IsLineFault, StandsFor}
 use Rattle.mr_text.specs.Tables.{never}
 
+-- where one of two tests answers yes, one of them does
 either : (s t : Bool) → s ≡ true → (s || t) ≡ false → ⊥
 either true t h g = cc
 either false t h g = cc
 
+-- where neither does, the second does not
 right : (s t : Bool) → (s || t) ≡ false → t ≡ false
 right true t h = cc
 right false t h = h
@@ -36,6 +38,7 @@ has_separator c (d ∷ a) x = ap (λ b. nat_eq c d || b) (has_separator c a x) �
     or_true true = refl
     or_true false = refl
 
+-- neither of two texts has the byte, so the text of both lacks it
 pub lacks-append : (c : ℕ) (a b : List ℕ) → Lacks c a → Lacks c b → Lacks c (a ++ b)
 lacks-append c a b p q = list_any-append (nat_eq c) a b ∙ ap (λ z. z || is_element b c) p ∙ q
 
@@ -43,6 +46,7 @@ lacks-append c a b p q = list_any-append (nat_eq c) a b ∙ ap (λ z. z || is_el
 pub same_line : (bytes a b x y : List ℕ) → BeginsWith bytes a x → BeginsWith bytes b y → (a ≡ b) × (x ≡ y)
 same_line bytes a b x y p q = same_parts 10 a b x y p.whole q.whole (sym p.text ∙ q.text)
 
+-- a line that is ended is not cut short
 pub not_cut_short : (bytes line rest : List ℕ) → BeginsWith bytes line rest → IsCutShort bytes → ⊥
 not_cut_short bytes line rest is none = let yes = has_separator 10 line rest in let e = ap (λ w. is_element w 10) is.text in cc
 
@@ -50,12 +54,15 @@ not_cut_short bytes line rest is none = let yes = has_separator 10 line rest in 
 pub cut_short : {M A : Type 0} (table : Table M A) (number : ℕ) (bytes : List ℕ) → Lacks 10 bytes → IsLineFault table number bytes (grammar number)
 cut_short table number bytes none = (refl, inl none)
 
+-- a line that spells nothing is a grammar fault
 pub stray : {M A : Type 0} (table : Table M A) (number : ℕ) (bytes line rest : List ℕ) → bytes ≡ line ++ 10 ∷ rest → Lacks 10 line → ((a : A) → ¬ (table.spells line a)) → IsLineFault table number bytes (grammar number)
 stray table number bytes line rest is whole none = (refl, inr (record { line = line; rest = rest; begins = record { text = is; whole = whole }; stray = none }))
 
+-- a value that is too large is a size fault
 pub too_large : {M A : Type 0} (table : Table M A) (number : ℕ) (bytes line rest : List ℕ) (a : A) (m : M) → BeginsWith bytes line rest → table.spells line a → table.exceeds a m → IsLineFault table number bytes (size number m)
 too_large table number bytes line rest a m begins spelled exceeds = (refl, record { line = line; rest = rest; value = a; begins = begins; spelled = spelled; exceeds = exceeds })
 
+-- a line that spells a value within the limits
 pub line_is : {M A : Type 0} (table : Table M A) (bytes line rest : List ℕ) (a : A) → bytes ≡ line ++ 10 ∷ rest → Lacks 10 line → table.spells line a → ((m : M) → ¬ (table.exceeds a m)) → IsLineOf table bytes a rest
 line_is table bytes line rest a is whole spelled fits = record { line = line; begins = record { text = is; whole = whole }; spelled = spelled; fits = fits }
 
@@ -63,14 +70,17 @@ line_is table bytes line rest a is whole spelled fits = record { line = line; be
 abbrev under : {M A : Type 0} → (List ℕ → A → Type 0) → (A → M → Type 0) → Table M A
 under spells exceeds = record { spells = spells; exceeds = exceeds }
 
+-- a grammar fault stays one under a limit
 pub fault_under : {M A : Type 0} (spells : List ℕ → A → Type 0) (exceeds : A → M → Type 0) (number : ℕ) (bytes : List ℕ) (fault : FirstFault M) → IsLineFault (under spells never) number bytes fault → IsLineFault (under spells exceeds) number bytes fault
 fault_under spells exceeds number bytes (grammar l) (is, inl short) = (is, inl short)
 fault_under spells exceeds number bytes (grammar l) (is, inr s) = (is, inr (record { line = s.line; rest = s.rest; begins = s.begins; stray = s.stray }))
 fault_under spells exceeds number bytes (size l m) (is, large) = absurd (large.exceeds)
 
+-- a line within the limit
 pub line_under : {M A : Type 0} (spells : List ℕ → A → Type 0) (exceeds : A → M → Type 0) (bytes : List ℕ) (a : A) (rest : List ℕ) → IsLineOf (under {M = M} spells never) bytes a rest → ((m : M) → ¬ (exceeds a m)) → IsLineOf (under spells exceeds) bytes a rest
 line_under spells exceeds bytes a rest is fits = record { line = is.line; begins = is.begins; spelled = is.spelled; fits = fits }
 
+-- a line above the limit
 pub large_under : {M A : Type 0} (spells : List ℕ → A → Type 0) (exceeds : A → M → Type 0) (number : ℕ) (bytes : List ℕ) (a : A) (rest : List ℕ) (m : M) → IsLineOf (under {M = M} spells never) bytes a rest → exceeds a m → IsLineFault (under spells exceeds) number bytes (size number m)
 large_under spells exceeds number bytes a rest m is large = (refl, record { line = is.line; rest = rest; value = a; begins = is.begins; spelled = is.spelled; exceeds = large })
 

@@ -4,6 +4,7 @@ use Rattle.std.specs.List.{AllByRecursion}
 use Rattle.mr_text.specs.Text.{Lacks, text_of_lines}
 use Rattle.mr_text.specs.Format.{FirstFault, grammar, size, Table, Format, done, line_of, IsLineFault, IsFirstFault}
 
+-- the number of the line with the fault
 abbrev pub line_of_fault : {M : Type 0} → FirstFault M → ℕ
 line_of_fault (grammar l) = l
 line_of_fault (size l m) = l
@@ -16,10 +17,12 @@ pub record StandsBefore (bytes : List ℕ) (number line : ℕ) : Type 0 where
   pub whole : AllByRecursion (Lacks 10) lines
   pub count : line ≡ number + length lines
 
+-- the fault of the first line has its number
 here : {M A : Type 0} (table : Table M A) (number : ℕ) (bytes : List ℕ) (fault : FirstFault M) → IsLineFault table number bytes fault → line_of_fault fault ≡ number
 here table number bytes (grammar l) h = h.0
 here table number bytes (size l m) h = h.0
 
+-- so many whole lines stand before the first fault
 pub numbered : {M X : Type 0} (format : Format M X) (number : ℕ) (bytes : List ℕ) (fault : FirstFault M) → IsFirstFault format number bytes fault → StandsBefore bytes number (line_of_fault fault)
 numbered (done x) number bytes fault h = absurd h
 numbered (line_of table due) number bytes fault (inl h) = record { lines = []; rest = bytes; text = refl; whole = tt; count = here table number bytes fault h ∙ (let e : number ≡ number + 0 = omega arith in e) }

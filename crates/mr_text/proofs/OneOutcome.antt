@@ -4,11 +4,13 @@ use Rattle.mr_text.specs.Format.{FirstFault, grammar, size, Table, Format, done,
 use Rattle.mr_text.specs.Sharp.{IsSharpTable, IsSharp}
 use Rattle.mr_text.proofs.Formats.{same_line, not_cut_short}
 
+-- a first line stands for one value
 one_line : {M A : Type 0} (table : Table M A) → IsSharpTable table → (bytes : List ℕ) (a b : A) (r s : List ℕ) → IsLineOf table bytes a r → IsLineOf table bytes b s → (a ≡ b) × (r ≡ s)
 one_line table sharp bytes a b r s p q =
     let same = same_line bytes p.line q.line r s p.begins q.begins in
     (sharp.one_value q.line a b (subst (λ w. table.spells w a) same.0 p.spelled) q.spelled, same.1)
 
+-- a first line with a value has no fault
 no_line_fault : {M A : Type 0} (table : Table M A) → IsSharpTable table → (number : ℕ) (bytes : List ℕ) (a : A) (r : List ℕ) (fault : FirstFault M) → IsLineOf table bytes a r → IsLineFault table number bytes fault → ⊥
 no_line_fault table sharp number bytes a r (grammar l) line (is, inl short) = not_cut_short bytes line.line r line.begins short
 no_line_fault table sharp number bytes a r (grammar l) line (is, inr s) =
@@ -19,6 +21,7 @@ no_line_fault table sharp number bytes a r (size l m) line (is, large) =
     let value = sharp.one_value large.line a large.value (subst (λ w. table.spells w a) same.0 line.spelled) large.spelled in
     line.fits m (subst (λ v. table.exceeds v m) (sym value) large.exceeds)
 
+-- a first line has one fault
 one_line_fault : {M A : Type 0} (table : Table M A) → IsSharpTable table → (number : ℕ) (bytes : List ℕ) (e f : FirstFault M) → IsLineFault table number bytes e → IsLineFault table number bytes f → e ≡ f
 one_line_fault table sharp number bytes (grammar k) (grammar l) p q = ap grammar (p.0 ∙ sym q.0)
 one_line_fault table sharp number bytes (grammar k) (size l m) (is, inl short) q = absurd (not_cut_short bytes q.1.line q.1.rest q.1.begins short)
@@ -68,6 +71,7 @@ pub no_fault_of : {M X : Type 0} (format : Format M X) → IsSharp format → (b
 no_fault_of format sharp bytes x fault (next, stands) (inl first) = no_fault format sharp 1 bytes x [] next fault stands first
 no_fault_of format sharp bytes x fault (next, stands) (inr (y, rest, k, other, some, is)) = some (sym (one_value format sharp 1 bytes x y [] rest next k stands other).1)
 
+-- a whole text has one first fault
 pub one_fault_of : {M X : Type 0} (format : Format M X) → IsSharp format → (bytes : List ℕ) (e f : FirstFault M) → IsFirstFaultOf format bytes e → IsFirstFaultOf format bytes f → e ≡ f
 one_fault_of format sharp bytes e f (inl p) (inl q) = one_fault format sharp 1 bytes e f p q
 one_fault_of format sharp bytes e f (inl p) (inr (y, rest, k, stands, some, is)) = absurd (no_fault format sharp 1 bytes y rest k e stands p)

@@ -1,3 +1,4 @@
+-- The answer is that of the matroid's maker.
 use Rattle.std.proofs.Common.{sym, subst, List, ℕ, Err}
 use Rattle.mr_file.specs.Reading.{listing, IsRefused}
 use Rattle.mr_file.specs.declared.fault.FileFault.{FileFault}

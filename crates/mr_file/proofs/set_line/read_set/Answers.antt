@@ -1,8 +1,9 @@
-use Rattle.std.proofs.Common.{◌≡◌, ap, sym, subst, ◌∙◌, Some, arith}
+-- A set with elements, and the empty set.
+use Rattle.std.proofs.Common.{◌≡◌, sym, subst, ◌∙◌, Some, arith}
 use Rattle.std.specs.Prelude.{◌↔◌, List, ℕ}
 use Rattle.mr_file.specs.Numbers.{SpellsSet}
 use Rattle.std.specs.Cmp.Lexicographic.{same_text}
-use Rattle.mr_file.proofs.Sets.{set_line, empty_line, other_line}
+use Rattle.mr_file.proofs.Sets.{set_line, empty_line}
 use Rattle.mr_file.proofs.set_line.read_set.Goals as goal
 
 pub returns-then-rank-gt0 : goal.returns-then-rank-gt0

@@ -1,9 +1,9 @@
-use Rattle.std.proofs.Common.{ℕ, List}
+-- No set so far is a basis.
 use Rattle.mr_set.specs.Subsets.{IsSetOf}
 use Rattle.mr_set.specs.Enumeration.{weight}
 use Rattle.mr_matroid.specs.Family.{presentation}
 use Rattle.mr_matroid.proofs.Walk.{Seen}
-use Rattle.mr_matroid.proofs.Failures.{NoneFrom, NoneFromPair, NoBasisAt}
+use Rattle.mr_matroid.proofs.Failures.{NoBasisAt}
 use Rattle.mr_matroid.proofs.family.Family.first_basis.Given as goal
 
 abbrev pub invariant-bases : goal.invariant-bases

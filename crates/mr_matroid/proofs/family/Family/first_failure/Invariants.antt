@@ -1,9 +1,9 @@
-use Rattle.std.proofs.Common.{ℕ, List}
+-- No exchange from a set so far fails.
 use Rattle.mr_set.specs.Subsets.{IsSetOf}
 use Rattle.mr_set.specs.Enumeration.{weight}
 use Rattle.mr_matroid.specs.Family.{presentation}
 use Rattle.mr_matroid.proofs.Walk.{Seen}
-use Rattle.mr_matroid.proofs.Failures.{NoneFrom, NoneFromPair, NoBasisAt}
+use Rattle.mr_matroid.proofs.Failures.{NoneFrom}
 use Rattle.mr_matroid.proofs.family.Family.first_failure.Given as goal
 
 abbrev pub invariant-firsts : goal.invariant-firsts

@@ -1,9 +1,9 @@
-use Rattle.std.proofs.Common.{ℕ, List}
+-- No exchange from b1 with a set so far fails.
 use Rattle.mr_set.specs.Subsets.{IsSetOf}
 use Rattle.mr_set.specs.Enumeration.{weight}
 use Rattle.mr_matroid.specs.Family.{presentation}
 use Rattle.mr_matroid.proofs.Walk.{Seen}
-use Rattle.mr_matroid.proofs.Failures.{NoneFrom, NoneFromPair, NoBasisAt}
+use Rattle.mr_matroid.proofs.Failures.{NoneFromPair}
 use Rattle.mr_matroid.proofs.family.Family.first_second.Given as goal
 
 abbrev pub invariant-seconds : goal.invariant-seconds

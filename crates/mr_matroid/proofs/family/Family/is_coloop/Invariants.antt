@@ -1,10 +1,9 @@
-use Rattle.std.proofs.Common.{ℕ, List}
+-- Each basis so far has the element.
 use Rattle.mr_set.specs.Subsets.{IsSetOf}
 use Rattle.mr_set.specs.Enumeration.{weight}
 use Rattle.mr_matroid.specs.Family.{presentation}
 use Rattle.mr_matroid.proofs.Walk.{Seen}
-use Rattle.mr_matroid.proofs.Elements.{NotAt, IsAt}
-use Rattle.mr_matroid.proofs.Ranks.{SharesAtMost, Reached}
+use Rattle.mr_matroid.proofs.Elements.{IsAt}
 use Rattle.mr_matroid.proofs.family.Family.is_coloop.Given as goal
 
 abbrev pub invariant-bases : goal.invariant-bases

@@ -1,9 +1,8 @@
-use Rattle.std.proofs.Common.{ℕ, List}
+-- No basis so far shares more, and one shares as much.
 use Rattle.mr_set.specs.Subsets.{IsSetOf}
 use Rattle.mr_set.specs.Enumeration.{weight}
 use Rattle.mr_matroid.specs.Family.{presentation}
 use Rattle.mr_matroid.proofs.Walk.{Seen}
-use Rattle.mr_matroid.proofs.Elements.{NotAt, IsAt}
 use Rattle.mr_matroid.proofs.Ranks.{SharesAtMost, Reached}
 use Rattle.mr_matroid.proofs.family.Family.most_shared.Given as goal
 

@@ -1,4 +1,5 @@
-use Rattle.std.proofs.Common.{◌≡◌, ◌≤◌, ap, length, subst, sym, ◌∙◌, arith}
+-- There are no more nonbases than sets of the rank's size.
+use Rattle.std.proofs.Common.{◌≤◌, ap, length, subst, sym, ◌∙◌, arith}
 use Rattle.mr_set.specs.Subsets.{choose}
 use Rattle.mr_set.specs.Matroid.{Presentation}
 use Rattle.mr_set.proofs.Counting.{no_more_sets}
