@@ -2,13 +2,9 @@
 use Rattle.std.proofs.Common.{◌≡◌, ℕ, zero, suc, ◌+◌, List, [], ◌∷◌, ◌++◌, length, map, get_or, take, refl, sym, ap, ◌∙◌, append_assoc, append-nil, arith}
 use Rattle.std.specs.Prelude.{◌<◌, ◌≤◌, decimal}
 use Rattle.std.proofs.lemmas.List.{take_more, take_all}
+use Rattle.mr_text.proofs.Listings.{numbers_text-push}
 use Rattle.mr_text.specs.Text.{numbers_text, text_of_lines}
 use Rattle.matrep.specs.Pieces.{next_number}
-
--- one number more behind the others
-numbers_text-push : (x : ℕ) (xs : List ℕ) (e : ℕ) → numbers_text ((x ∷ xs) ++ e ∷ []) ≡ numbers_text (x ∷ xs) ++ 32 ∷ decimal e
-numbers_text-push x [] e = refl
-numbers_text-push x (y ∷ xs) e = ap (λ w. decimal x ++ 32 ∷ w) (numbers_text-push y xs e) ∙ sym (append_assoc (decimal x) (32 ∷ numbers_text (y ∷ xs)) (32 ∷ decimal e))
 
 -- the number at the next place of a list
 numbers_text-more : (row : List ℕ) (j : ℕ) → j < length row → numbers_text (take (j + 1) row) ≡ numbers_text (take j row) ++ next_number j (get_or row j 0)
@@ -21,11 +17,6 @@ numbers_text-more (x ∷ row) (suc j) lt =
 pub written_more : (old new after row : List ℕ) (j : ℕ) → j < length row → new ≡ old ++ numbers_text (take j row) → after ≡ new ++ next_number j (get_or row j 0) → after ≡ old ++ numbers_text (take (j + 1) row)
 written_more old new after row j lt before is =
     is ∙ ap (λ w. w ++ next_number j (get_or row j 0)) before ∙ append_assoc old (numbers_text (take j row)) (next_number j (get_or row j 0)) ∙ ap (λ w. old ++ w) (sym (numbers_text-more row j lt))
-
--- the lines of two lists, one after the other
-pub lines-append : (a b : List (List ℕ)) → text_of_lines (a ++ b) ≡ text_of_lines a ++ text_of_lines b
-lines-append [] b = refl
-lines-append (x ∷ a) b = ap (λ w. (x ++ 10 ∷ []) ++ w) (lines-append a b) ∙ sym (append_assoc (x ++ 10 ∷ []) (text_of_lines a) (text_of_lines b))
 
 -- one line more
 pub rows_more : (old new after : List ℕ) (rows : List (List ℕ)) (i : ℕ) → i < length rows → new ≡ old ++ text_of_lines (map numbers_text (take i rows))

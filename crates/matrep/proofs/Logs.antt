@@ -7,7 +7,7 @@ use Rattle.mr_linear.specs.Matrix.{Grid}
 use Rattle.mr_text.specs.Text.{set_text, text_of_lines}
 use Rattle.mr_file.specs.File.{file_lines, file_text}
 use Rattle.matrep.specs.Texts.{matrix_lines, answer_text, log_text}
-use Rattle.matrep.proofs.Blocks.{lines-append}
+use Rattle.mr_text.proofs.Listings.{lines-append}
 
 -- one digit
 one : decimal 1 ≡ 49 ∷ []

@@ -6,57 +6,11 @@ use Rattle.std.specs.Ordering.{nat_cmp}
 use Rattle.std.proofs.lemmas.Bool.Decides.{nat_tests}
 use Rattle.mr_set.specs.Elements.{is_element, with_element}
 use Rattle.mr_set.proofs.Members.{IsBelowAll, less_from_cmp, cmp_from_less}
+use Rattle.mr_set.proofs.Sorted.{all_head, all_tail, all_cons, all_none, below_all, all_above, sorted_cons, sorted_parts, sorted_none, with_front}
 use Rattle.mr_text.specs.Text.{numbers_text}
 use Rattle.mr_file.specs.Numbers.{AreNumbersFrom, SpellsSet}
 use Rattle.mr_text.proofs.Formats.{same_parts, has_separator}
 use Rattle.mr_text.proofs.Decimals.{decimal_without}
-
--- what holds of all holds of the first
-all_head : (P : ℕ → Type 0) (x : ℕ) (xs : List ℕ) → All P (x ∷ xs) → P x
-all_head P x xs all = all 0 x (omega arith)
-
--- and of the others
-all_tail : (P : ℕ → Type 0) (x : ℕ) (xs : List ℕ) → All P (x ∷ xs) → All P xs
-all_tail P x xs all k d lt = all (suc k) d (omega arith)
-
--- of the first and the others, so of all
-all_cons : (P : ℕ → Type 0) (x : ℕ) (xs : List ℕ) → P x → All P xs → All P (x ∷ xs)
-all_cons P x xs here rest zero d lt = here
-all_cons P x xs here rest (suc k) d lt = rest k d (omega arith)
-
--- a lesser number stands before all
-below_all : (e : ℕ) (xs : List ℕ) → All (λ x. e + 1 ≤ x) xs → IsBelowAll e xs
-below_all e [] all = tt
-below_all e (x ∷ xs) all = (cmp_from_less e x (let h = all_head (λ y. e + 1 ≤ y) x xs all in omega arith), below_all e xs (all_tail (λ y. e + 1 ≤ y) x xs all))
-
--- and what it stands before is greater
-all_above : (e : ℕ) (xs : List ℕ) → IsBelowAll e xs → All (λ x. e + 1 ≤ x) xs
-all_above e [] below = λ k d lt. absurd (omega arith)
-all_above e (x ∷ xs) below = all_cons (λ y. e + 1 ≤ y) x xs (let h = less_from_cmp e x below.0 in omega arith) (all_above e xs below.1)
-
--- a lesser number in front
-sorted_cons : (e : ℕ) (xs : List ℕ) → IsBelowAll e xs → IsStrictlySortedBy nat_cmp xs → IsStrictlySortedBy nat_cmp (e ∷ xs)
-unfolding IsStrictlySortedBy
-sorted_cons e xs below sorted = (below, sorted)
-
--- the first number and the others
-sorted_parts : (e : ℕ) (xs : List ℕ) → IsStrictlySortedBy nat_cmp (e ∷ xs) → IsBelowAll e xs × IsStrictlySortedBy nat_cmp xs
-unfolding IsStrictlySortedBy
-sorted_parts e xs sorted = (sorted.0, sorted.1)
-
--- no numbers
-sorted_none : IsStrictlySortedBy nat_cmp []
-unfolding IsStrictlySortedBy
-sorted_none = tt
-
--- a smaller element goes to the front
-pub with_front : (e : ℕ) (xs : List ℕ) → All (λ x. e + 1 ≤ x) xs → with_element e xs ≡ e ∷ xs
-with_front e [] all = refl
-with_front e (x ∷ xs) all =
-    let lt : e < x = (let h = all_head (λ y. e + 1 ≤ y) x xs all in omega arith) in
-    let no_less : nat_lt x e ≡ false = grind (arith, nat_tests) in
-    let other : nat_eq x e ≡ false = grind (arith, nat_tests) in
-    ap (λ b. cond b (x ∷ with_element e xs) (cond (nat_eq x e) (x ∷ xs) (e ∷ x ∷ xs))) no_less ∙ ap (λ b. cond b (x ∷ xs) (e ∷ x ∷ xs)) other
 
 -- what a number's reader says
 abbrev Reads : Option ℕ → List ℕ → Type 0
