@@ -13,6 +13,7 @@ mod tests;
 mod words;
 
 use mr_io::{Silent, StdSink, StdSource};
+use std::io::ErrorKind;
 use std::process::ExitCode;
 use std::{env, io};
 
@@ -27,8 +28,14 @@ enum NoWords {
 
 // The program's words without its own name.
 fn gather(rt: &HostRuntime) -> Result<Vec<String>, NoWords> {
-    let Ok(args) = env::args(rt) else {
-        return Err(NoWords::System);
+    let args = match env::args(rt) {
+        Ok(args) => args,
+        Err(error) => {
+            if error.kind() == ErrorKind::OutOfMemory {
+                return Err(NoWords::Memory);
+            }
+            return Err(NoWords::System);
+        }
     };
     let mut words = Vec::new(rt.alloc());
     for word in args.skip(1) {
