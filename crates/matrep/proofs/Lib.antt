@@ -6,3 +6,4 @@ pub mod Solved
 pub mod Logs
 pub mod Refused
 pub mod Offences
+pub mod OneEnd

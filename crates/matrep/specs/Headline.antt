@@ -15,6 +15,10 @@ pub record Takes (old new : Option (List ℕ)) (bytes : List ℕ) : Type 0 where
   pub limit : length bytes ≤ FILE_BYTES + 1
   pub ended : length bytes ≤ FILE_BYTES → IsAtEnd new
 
+-- Some bytes were taken from the front, at most one more than a file may have.
+abbrev pub TakesPart : Option (List ℕ) → Option (List ℕ) → Type 0
+TakesPart old new = (bytes : List ℕ) × Consumes old new bytes × (length bytes ≤ FILE_BYTES + 1)
+
 -- The exit and the text that are due. Where the words offend nothing is taken from the source.
 abbrev pub IsDue : List (List ℕ) → Option (List ℕ) → Option (List ℕ) → Exit → List ℕ → Type 0
 IsDue words old new exit text = MatchOption (first_offence words)

@@ -6,4 +6,5 @@ pub mod Result
 pub mod Refusals
 pub mod Headline
 pub mod Status
+pub mod Laws
 pub mod Pieces

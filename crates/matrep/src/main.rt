@@ -4,6 +4,7 @@
 mod answer;
 mod binary;
 mod block;
+mod laws;
 mod outcome;
 mod refusal;
 mod run;
