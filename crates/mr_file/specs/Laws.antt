@@ -1,10 +1,10 @@
 -- What a text may be at once.
-use Rattle.std.specs.Prelude.{◌≡◌, ◌≢◌, ℕ, List}
+use Rattle.std.specs.Prelude.{◌≡◌, ◌≢◌, ℕ, ◌≤◌, List, length}
 use Rattle.mr_set.specs.Matroid.{Presentation, IsPresentation}
 use Rattle.mr_matroid.specs.Exchange.{IsWithinLimits}
 use Rattle.mr_text.specs.Format.{FirstFault, IsTextOf, IsFirstFaultOf}
 use Rattle.mr_file.specs.File.{file_text, IsFileOf}
-use Rattle.mr_file.specs.Reading.{whole_file, IsFileRefusal}
+use Rattle.mr_file.specs.Reading.{whole_file, IsFileRefusal, IsPartRefusal}
 use Rattle.mr_file.specs.declared.fault.Measure.{Measure}
 use Rattle.mr_file.specs.declared.fault.FileFault.{FileFault}
 use Rattle.mr_file.specs.declared.fault.FileFault.TheVariants.{Memory}
@@ -25,6 +25,14 @@ OneFile = (m k : Presentation) → IsPresentation m → IsPresentation k → IsW
 abbrev pub OneRefusal : Type 0
 OneRefusal = (bytes : List ℕ) (e f : FileFault) → e ≢ Memory → f ≢ Memory → IsFileRefusal bytes e → IsFileRefusal bytes f → e ≡ f
 
+-- so is a file that begins a text, whose first line has this number
+abbrev pub OnePartRefusal : Type 0
+OnePartRefusal = (number : ℕ) (bytes : List ℕ) (e f : FileFault) → e ≢ Memory → f ≢ Memory → IsPartRefusal number bytes e → IsPartRefusal number bytes f → e ≡ f
+
 -- the file of a matroid is not refused, unless memory runs out
 abbrev pub NoRefusal : Type 0
 NoRefusal = (bytes : List ℕ) (m : Presentation) (e : FileFault) → IsFileOf bytes m → IsFileRefusal bytes e → e ≡ Memory
+
+-- numbers and sets within the limits have a short file
+abbrev pub FileLength : Type 0
+FileLength = (m : Presentation) → IsPresentation m → IsWithinLimits m → length (file_text m) ≤ 1048576

@@ -1,4 +1,4 @@
-ghost use Rattle.mr_file.specs.Laws.{OneFault, NoFault, OneFile, OneRefusal, NoRefusal};
+ghost use Rattle.mr_file.specs.Laws.{OneFault, NoFault, OneFile, OneRefusal, OnePartRefusal, NoRefusal, FileLength};
 
 /// A text has one first fault.
 pub fn one_fault()
@@ -20,7 +20,17 @@ pub fn one_refusal()
     ensures { OneRefusal }
 {}
 
+/// A file that begins a text is refused for one cause.
+pub fn one_part_refusal()
+    ensures { OnePartRefusal }
+{}
+
 /// The file of a matroid is not refused.
 pub fn no_refusal()
     ensures { NoRefusal }
+{}
+
+/// The file of numbers and sets within the limits has at most 1048576 bytes.
+pub fn file_length()
+    ensures { FileLength }
 {}
