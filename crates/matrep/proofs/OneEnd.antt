@@ -204,13 +204,13 @@ one_taken old (Some r) (Some s) b c p q =
     same_size : length b ≡ length c
     same_size = ⊎_elim
         (λ (long : FILE_BYTES < length b). ⊎_elim
-            (λ (long_too : FILE_BYTES < length c). let most = p.limit in let most_too = q.limit in omega arith)
-            (λ (short_too : length c ≤ FILE_BYTES). let none : length s ≡ 0 = ap length (q.ended short_too) in omega (arith, whole, whole_too))
-            (cases_lt FILE_BYTES (length c)))
+        (λ (long_too : FILE_BYTES < length c). let most = p.limit in let most_too = q.limit in omega arith)
+        (λ (short_too : length c ≤ FILE_BYTES). let none : length s ≡ 0 = ap length (q.ended short_too) in omega (arith, whole, whole_too))
+        (cases_lt FILE_BYTES (length c)))
         (λ (short : length b ≤ FILE_BYTES). let none : length r ≡ 0 = ap length (p.ended short) in ⊎_elim
-            (λ (long_too : FILE_BYTES < length c). omega (arith, whole, whole_too))
-            (λ (short_too : length c ≤ FILE_BYTES). let none_too : length s ≡ 0 = ap length (q.ended short_too) in omega (arith, whole, whole_too))
-            (cases_lt FILE_BYTES (length c)))
+        (λ (long_too : FILE_BYTES < length c). omega (arith, whole, whole_too))
+        (λ (short_too : length c ≤ FILE_BYTES). let none_too : length s ≡ 0 = ap length (q.ended short_too) in omega (arith, whole, whole_too))
+        (cases_lt FILE_BYTES (length c)))
         (cases_lt FILE_BYTES (length b))
 
 -- known bytes that stay
