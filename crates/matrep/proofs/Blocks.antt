@@ -1,6 +1,6 @@
 -- Numbers and lines that are written one after another.
 use Rattle.std.proofs.Common.{◌≡◌, ℕ, zero, suc, ◌+◌, List, [], ◌∷◌, ◌++◌, length, map, get_or, take, refl, sym, ap, ◌∙◌, append_assoc, append-nil, arith}
-use Rattle.std.specs.Prelude.{◌<◌, ◌≤◌, decimal}
+use Rattle.std.specs.Prelude.{◌<◌, ◌≤◌}
 use Rattle.std.proofs.lemmas.List.{take_more, take_all}
 use Rattle.mr_text.proofs.Listings.{numbers_text-push}
 use Rattle.mr_text.specs.Text.{numbers_text, text_of_lines}

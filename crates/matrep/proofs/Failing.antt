@@ -1,5 +1,5 @@
 -- Whether a set fails, by the independence of its columns.
-use Rattle.std.proofs.Common.{◌⊎◌, ◌↔◌, ℕ, Bool, true, false, not, List, sym, subst, inl, inr, ⊎_elim}
+use Rattle.std.proofs.Common.{◌↔◌, ℕ, Bool, true, false, not, List, sym, subst, inl, inr, ⊎_elim}
 use Rattle.std.specs.Prelude.{MatchBool}
 use Rattle.mr_set.specs.Elements.{IsSet, is_element, minus}
 use Rattle.mr_set.specs.Subsets.{IsSetOf}

@@ -1,14 +1,14 @@
 -- For given words and bytes one exit and one text are due.
-use Rattle.std.proofs.Common.{◌≡◌, ◌≢◌, ◌⊎◌, ◌↔◌, ℕ, ◌+◌, ◌≤◌, Bool, true, false, List, [], ◌∷◌, ◌++◌, length, get_or, refl, sym, ap, subst, ◌∙◌, inl, inr, ⊎_elim, arith, take, Option, Some, None}
+use Rattle.std.proofs.Common.{◌≡◌, ◌≢◌, ◌⊎◌, ◌↔◌, ℕ, ◌+◌, ◌≤◌, true, false, List, [], ◌++◌, length, get_or, refl, sym, ap, subst, ◌∙◌, inl, inr, ⊎_elim, arith, take, Option, Some, None}
 use Rattle.std.specs.Prelude.{◌<◌, Contains, MatchOption}
-use Rattle.std.specs.Io.KnownBytes.{Consumes, IsAtEnd, Keeps}
+use Rattle.std.specs.Io.KnownBytes.{Keeps}
 use Rattle.std.proofs.lemmas.Bool.{cases_eq, cases_lt, cases_Bool, both_ways}
 use Rattle.std.proofs.lemmas.List.{append_cancel_left, length-append}
 use Rattle.std.proofs.Math.Seq.{take-append_seam}
-use Rattle.mr_field.specs.Gf.{Gf, gf2, order}
+use Rattle.mr_field.specs.Gf.{Gf, order}
 use Rattle.mr_set.specs.Elements.{is_element, with_element, without_element}
-use Rattle.mr_set.specs.Matroid.{Presentation, IsMatroid, IsBasis, IsFirstBasis}
-use Rattle.mr_set.proofs.Members.{Contains-from_element, is_element-from_Contains}
+use Rattle.mr_set.specs.Matroid.{Presentation, IsBasis}
+use Rattle.mr_set.proofs.Members.{is_element-from_Contains}
 use Rattle.mr_set.proofs.Uniqueness.{same-from_unordered, first_basis-same}
 use Rattle.mr_matroid.specs.Exchange.{HasNoBasis, IsFirstFailure}
 use Rattle.mr_matroid.proofs.Verdicts.{one_first_failure}
@@ -17,9 +17,8 @@ use Rattle.mr_text.proofs.OneOutcome.{one_value, no_fault_of, one_fault_of}
 use Rattle.mr_file.specs.File.{IsFileOf}
 use Rattle.mr_file.specs.Reading.{whole_file}
 use Rattle.mr_file.proofs.SharpFile.{file_sharp}
-use Rattle.mr_file.proofs.Accepting.{text_of_file, one_file}
+use Rattle.mr_file.proofs.Accepting.{text_of_file}
 use Rattle.mr_linear.specs.Matrix.{Grid, height, entry}
-use Rattle.mr_linear.specs.Representation.{IsAnswer}
 use Rattle.mr_linear.proofs.Grids.{same_grids, entry-lt}
 use Rattle.mr_linear.proofs.Places.{IsBasisOf-places}
 use Rattle.mr_linear.proofs.Unique.{one-answer}
@@ -27,7 +26,7 @@ use Rattle.matrep.specs.Words.{first_offence}
 use Rattle.matrep.specs.Texts.{usage_text, answer_text, log_text, refusal_text}
 use Rattle.matrep.specs.Binary.{IsFilled, IsFirstToFail, IsFirstFailing}
 use Rattle.matrep.specs.Result.{ListsAnswer, Refutes, IsAtFault, AllowsFile, Allows}
-use Rattle.matrep.specs.Headline.{Takes, IsDue}
+use Rattle.matrep.specs.Headline.{Takes}
 use Rattle.matrep.specs.Laws.{OneEndIsDue}
 use Rattle.matrep.specs.declared.TheConstants.{FILE_BYTES}
 use Rattle.matrep.specs.declared.outcome.Exit.{Exit}

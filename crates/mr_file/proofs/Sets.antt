@@ -1,12 +1,8 @@
 -- Sets as their numbers with spaces between them.
-use Rattle.std.proofs.Common.{◌≡◌, ℕ, zero, suc, ◌+◌, ◌-◌, ◌≤◌, List, [], ◌∷◌, ◌++◌, refl, sym, ap, subst, ◌∙◌, arith, Option, Some, None, false, cond}
-use Rattle.std.specs.Prelude.{codes, ◌<◌, ◌^◌, ◌↔◌, All, decimal, nat_eq, nat_lt}
-use Rattle.std.specs.List.Sorted.{IsStrictlySortedBy}
-use Rattle.std.specs.Ordering.{nat_cmp}
-use Rattle.std.proofs.lemmas.Bool.Decides.{nat_tests}
+use Rattle.std.proofs.Common.{◌≡◌, ℕ, suc, ◌+◌, ◌-◌, ◌≤◌, List, [], ◌∷◌, ◌++◌, refl, sym, ap, subst, ◌∙◌, arith, Option, Some, None, false}
+use Rattle.std.specs.Prelude.{codes, ◌<◌, ◌^◌, ◌↔◌, decimal}
 use Rattle.mr_set.specs.Elements.{is_element, with_element}
-use Rattle.mr_set.proofs.Members.{IsBelowAll, less_from_cmp, cmp_from_less}
-use Rattle.mr_set.proofs.Sorted.{all_head, all_tail, all_cons, all_none, below_all, all_above, sorted_cons, sorted_parts, sorted_none, with_front}
+use Rattle.mr_set.proofs.Sorted.{all_head, all_tail, all_cons, below_all, all_above, sorted_cons, sorted_parts, sorted_none, with_front}
 use Rattle.mr_text.specs.Text.{numbers_text}
 use Rattle.mr_file.specs.Numbers.{AreNumbersFrom, SpellsSet}
 use Rattle.mr_text.proofs.Formats.{same_parts, has_separator}
