@@ -14,44 +14,43 @@ mod tests;
 mod words;
 
 use mr_io::{Silent, StdSink, StdSource};
-use std::io::ErrorKind;
+use std::alloc::{AllocError, Global};
+use std::env::{Env, FillError};
+use std::io;
 use std::process::ExitCode;
-use std::{env, io};
 
 /// The most bytes of a matroid file.
 pub const FILE_BYTES: usize = 1048576;
 
-// Why the program's words were not gathered.
-enum NoWords {
-    Memory,
-    System,
-}
+// Longer than any word of a command.
+const WORD_BYTES: usize = 1024;
 
-// The program's words without its own name.
-fn gather(rt: &HostRuntime) -> Result<Vec<String>, NoWords> {
-    let args = match env::args(rt) {
-        Ok(args) => args,
-        Err(error) => {
-            if error.kind() == ErrorKind::OutOfMemory {
-                return Err(NoWords::Memory);
-            }
-            return Err(NoWords::System);
-        }
-    };
+// The program's words without its own name. An empty word, which offends, stands for one that is too long or isn't UTF-8.
+fn gather(rt: &HostRuntime) -> Result<Vec<String>, AllocError> {
     let mut words = Vec::new(rt.alloc());
-    for word in args.skip(1) {
-        if words.push(word).is_err() {
-            return Err(NoWords::Memory);
+    let mut buf = [0u8; WORD_BYTES];
+    for place in 1..usize::MAX {
+        match rt.arg(place, &mut buf) {
+            Ok(count) => words.push(word_of(rt.alloc(), &buf[..count])?)?,
+            Err(FillError::TooLong) => words.push(String::new(rt.alloc()))?,
+            Err(FillError::NotPresent) => break,
         }
     }
     Ok(words)
 }
 
+// The bytes as a word, or the empty word where they are no text.
+fn word_of(alloc: Global, bytes: &[u8]) -> Result<String, AllocError> {
+    match str::from_utf8(bytes) {
+        Ok(word) => String::from_str(alloc, word),
+        Err(_) => Ok(String::new(alloc)),
+    }
+}
+
 fn main(rt: HostRuntime) -> ExitCode {
     let words = match gather(&rt) {
         Ok(words) => words,
-        Err(NoWords::Memory) => return ExitCode::from(5),
-        Err(NoWords::System) => return ExitCode::from(8),
+        Err(_) => return ExitCode::from(5),
     };
     let mut input = StdSource::new(rt.reader());
     let mut output = StdSink::new(io::writer(&rt));

@@ -122,12 +122,18 @@ fn another_input_is_refused(rt: HostRuntime) -> Result<(), Fail> {
 }
 
 #[test]
-fn one_byte_too_many_is_refused(rt: HostRuntime) -> Result<(), Fail> {
+fn one_byte_more_than_the_limit_is_too_long(rt: HostRuntime) -> Result<(), Fail> {
     let alloc = rt.alloc();
-    let input = vec![in alloc; b'a'; 1_048_577]?;
-    let mut sink = MemSink::new(alloc, 100, 4096, [].as_slice())?;
-    assert_eq!(rt; solve(&rt, alloc, &input, &mut sink)?, 2);
-    assert_eq!(rt; sink.held(), b"refused too long\n".as_slice());
+    let cases: [(usize, &[u8]); 2] = [
+        (1_048_576, b"refused grammar line 1\n"),
+        (1_048_577, b"refused too long\n"),
+    ];
+    for (length, text) in cases {
+        let input = vec![in alloc; b'a'; length]?;
+        let mut sink = MemSink::new(alloc, 100, 4096, [].as_slice())?;
+        assert_eq!(rt; solve(&rt, alloc, &input, &mut sink)?, 2);
+        assert_eq!(rt; sink.held(), text);
+    }
     Ok(())
 }
 
