@@ -1,0 +1,16 @@
+pub mod Joining
+pub mod Outside
+pub mod Pascal
+pub mod Counted
+pub mod Table
+pub mod SetsInOrder
+pub mod Needed
+pub mod Keeping
+pub mod Copying
+pub mod Uniqueness
+pub mod Entries
+pub mod Parts
+pub mod Made
+pub mod OneVerdict
+pub mod Filled
+pub mod Apart
