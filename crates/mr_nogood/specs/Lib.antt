@@ -1,0 +1,4 @@
+pub mod Row
+pub mod Follows
+pub mod Packing
+pub mod Laws
