@@ -12,5 +12,6 @@ pub mod Entries
 pub mod Parts
 pub mod Made
 pub mod OneVerdict
+pub mod OneFrame
 pub mod Filled
 pub mod Apart

@@ -9,6 +9,10 @@ use Rattle.mr_frame.specs.declared.verdict.Verdict.{Verdict}
 abbrev pub AssignmentsFill : Type 0
 AssignmentsFill = (f : Framed) (a : List ℕ) → IsFrame f → IsAssignmentOf f a → (g : Grid) × IsFilledBy f a g
 
+-- there is one frame at most of a matroid over a field
+abbrev pub OneFrame : Type 0
+OneFrame = (f g : Framed) → IsFrame f → IsFrame g → f.matroid ≡ g.matroid → f.field ≡ g.field → f ≡ g
+
 -- one matrix at most is filled by an assignment
 abbrev pub OneFilledMatrix : Type 0
 OneFilledMatrix = (f : Framed) (a : List ℕ) (g h : Grid) → IsFilledBy f a g → IsFilledBy f a h → g ≡ h

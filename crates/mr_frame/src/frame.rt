@@ -1,11 +1,12 @@
 ghost use Rattle.std.specs.Prelude.{◌≡◌, ◌↔◌, ◌<◌, ◌≤◌, ◌+◌, ℕ, List, IsTrue, IfOk, IfSome, MatchBool, MatchOption, Contains, Some, length, slice_get, slice_index};
-ghost use Rattle.std.specs.List.Sorted.{IsStrictlySortedBy};
+ghost use Rattle.std.specs.List.Sorted.{IsPermutation, IsStrictlySortedBy};
 ghost use Rattle.mr_field.specs.Gf.{order};
 ghost use Rattle.mr_set.specs.declared.TheConstants.{ELEMENTS};
 ghost use Rattle.mr_set.specs.Subsets.{IsSetOf, list_cmp};
 ghost use Rattle.mr_assign.specs.declared.TheConstants.{POSITIONS};
 ghost use Rattle.mr_linear.specs.Stored.{cell, InField};
-ghost use Rattle.mr_frame.specs.Frame.{IsFrame};
+ghost use Rattle.mr_graph.specs.Order.{IsForestOrder};
+ghost use Rattle.mr_frame.specs.Frame.{IsExchange, IsFrame};
 ghost use Rattle.mr_frame.specs.Test.{IsCell, IsAssignmentOf, IsFull, IsFilledBy, Needs, IsDecided, SetFails, IsVerdict, IsFirstFailing};
 ghost use Rattle.mr_frame.specs.Filling.{AreRows, HasValue, HasEntry, IsFilledTo};
 
@@ -93,6 +94,22 @@ impl Frame {
         ensures frame { IsFrame self.now }
     {
         self.basis
+    }
+
+    /// The first forest of the basis's fundamental graph, row by row, and in a row by column.
+    pub fn forest(&self) -> &[Edge]
+        ensures { result.now ≡ self.now.forest }
+    {
+        self.forest.as_slice()
+    }
+
+    /// The forest's edges, so that every edge but the first of its component has exactly one end that
+    /// earlier edges touch.
+    pub fn forest_order(&self, alloc: Global) -> Result<EdgeList, AllocError>
+        ensures same { IfOk result (IsPermutation self.now.forest) }
+        ensures order { IfOk result (IsForestOrder (IsExchange self.now.matroid self.now.basis)) }
+    {
+        fundamental_graph(&self.matroid, self.basis).forest_order(alloc, &self.forest)
     }
 
     /// How many positions are free.

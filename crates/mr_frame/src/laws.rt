@@ -1,8 +1,13 @@
-ghost use Rattle.mr_frame.specs.Laws.{AssignmentsFill, OneFilledMatrix, OneVerdict, PartsTell};
+ghost use Rattle.mr_frame.specs.Laws.{AssignmentsFill, OneFilledMatrix, OneFrame, OneVerdict, PartsTell};
 
 /// Each assignment of a frame fills a matrix.
 pub fn assignments_fill()
     ensures { AssignmentsFill }
+{}
+
+/// A matroid has one frame over a field.
+pub fn one_frame()
+    ensures { OneFrame }
 {}
 
 /// An assignment fills one matrix at most.

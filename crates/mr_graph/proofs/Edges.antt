@@ -1,6 +1,9 @@
 -- Lists of edges in row-major order.
-use Rattle.std.proofs.Common.{ℕ, zero, suc, ◌+◌, ◌<◌, ◌≤◌, ◌≡◌, ◌≢◌, ◌⊎◌, List, [], ◌∷◌, ◌++◌, length, get_or, refl, sym, ⊎_elim, inl, inr, arith}
+use Rattle.std.proofs.Common.{ℕ, zero, suc, ◌+◌, ◌<◌, ◌≤◌, ◌≡◌, ◌≢◌, ◌⊎◌, List, [], ◌∷◌, ◌++◌, length, get_or, refl, sym, ap, subst, ◌∙◌, ⊎_elim, inl, inr, arith}
+use Rattle.std.specs.Prelude.{Contains}
+use Rattle.std.specs.List.Sorted.{IsPermutation}
 use Rattle.std.proofs.lemmas.Bool.{cases_lt, cases_eq}
+use Rattle.std.proofs.lemmas.List.Sorted.{Contains-permutation}
 use Rattle.mr_graph.specs.declared.edge.Edge.{Edge}
 use Rattle.mr_graph.specs.Forest.{HasEdge, IsBefore}
 
@@ -56,3 +59,19 @@ HasEdge-or_not (x ∷ xs) i e = ⊎_elim
     (λ (q : i ≡ x.row). ⊎_elim (λ (r : e ≡ x.col). inl (inl (q, r))) (λ (r : e ≢ x.col). inr (λ h. ⊎_elim (λ (s : (i ≡ x.row) × (e ≡ x.col)). r s.1) p h)) (cases_eq e x.col))
     (λ (q : i ≢ x.row). inr (λ h. ⊎_elim (λ (s : (i ≡ x.row) × (e ≡ x.col)). q s.0) p h)) (cases_eq i x.row))
     (HasEdge-or_not xs i e)
+
+-- an edge is its row and its column
+pub edge_same : (x y : Edge) → x.row ≡ y.row → x.col ≡ y.col → x ≡ y
+edge_same x y r c =
+    let P : Edge = record { row = y.row; col = x.col } in
+    let first : x ≡ P = ap (λ (k : ℕ). let z : Edge = record { row = k; col = x.col } in z) r in
+    let second : P ≡ y = ap (λ (k : ℕ). let z : Edge = record { row = y.row; col = k } in z) c in
+    first ∙ second
+
+-- a list in another order has the same edges
+pub HasEdge-permutation : (xs ys : List Edge) → IsPermutation xs ys → (i e : ℕ) → HasEdge xs i e → HasEdge ys i e
+HasEdge-permutation xs ys moved i e h =
+    let x : Edge = record { row = i; col = e } in
+    let u = HasEdge-place xs i e h x in
+    let there : Contains ys x = Contains-permutation xs ys x moved (u.0, u.1, edge_same (get_or xs u.0 x) x u.2 u.3) in
+    subst (λ (y : Edge). HasEdge ys y.row y.col) there.2 (HasEdge-get_or ys there.0 x there.1)

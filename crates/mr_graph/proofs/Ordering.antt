@@ -23,7 +23,7 @@ touched xs (row i) (k, x, lt, read, is) = (x.col, subst (λ j. HasEdge xs j x.co
 touched xs (col e) (k, x, lt, read, is) = (x.row, subst (λ j. HasEdge xs x.row j) is (subst (λ (y : Edge). HasEdge xs y.row y.col) read (HasEdge-get_or xs k x lt)))
 
 -- and a vertex that has an edge of it is touched
-touches : (xs : List Edge) (v : Vertex) → Touched (HasEdge xs) v → Touches xs v
+pub touches : (xs : List Edge) (v : Vertex) → Touched (HasEdge xs) v → Touches xs v
 touches xs (row i) (e, h) =
     let d : Edge = record { row = 0; col = 0 } in
     let u = HasEdge-place xs i e h d in
@@ -72,7 +72,7 @@ removed_gone xs k d lt distinct h =
 -- `out` was taken in order, and `left` is left
 pub record IsOrdered (g : Graph) (forest out left : List Edge) : Type 0 where
   pub same : IsPermutation forest (out ++ left)
-  pub order : IsForestOrder g out
+  pub order : IsForestOrder (IsEdge g) out
   pub split : IsSplit (HasEdge forest) (HasEdge out) (HasEdge left)
   pub distinct : AllPairs IsDifferent left
 
@@ -83,19 +83,19 @@ no_leaf_apart g forest out left h s none (row i) (e, y) p = none i e y (inl (tou
 no_leaf_apart g forest out left h s none (col e) (i, y) p = none i e y (inr (touches out (col e) p, λ q. free_end (acyclic_first g forest h) s i e y (touched out (row i) q) p))
 
 -- an order grows by the first edge of a component, or by an edge with exactly one end touched
-order_push : (g : Graph) (out : List Edge) (x : Edge) → IsForestOrder g out → IsFirstAt g out x.row ⊎ IsLeafOf out x.row x.col → IsForestOrder g (out ++ x ∷ [])
-order_push g out x h new k d lt = ⊎_elim
+order_push : (G : ℕ → ℕ → Type 0) (out : List Edge) (x : Edge) → IsForestOrder G out → IsFirstAt G out x.row ⊎ IsLeafOf out x.row x.col → IsForestOrder G (out ++ x ∷ [])
+order_push G out x h new k d lt = ⊎_elim
     (λ (p : k < length out).
     let cut : take k (out ++ x ∷ []) ≡ take k out = take-append-le k out (x ∷ []) (omega arith) in
     let read : get_or (out ++ x ∷ []) k d ≡ get_or out k d = get_or_append_left out (x ∷ []) d k p in
-    subst (λ ys. IsFirstAt g ys (get_or (out ++ x ∷ []) k d).row ⊎ IsLeafOf ys (get_or (out ++ x ∷ []) k d).row (get_or (out ++ x ∷ []) k d).col) (sym cut)
-    (subst (λ (y : Edge). IsFirstAt g (take k out) y.row ⊎ IsLeafOf (take k out) y.row y.col) (sym read) (h k d p)))
+    subst (λ ys. IsFirstAt G ys (get_or (out ++ x ∷ []) k d).row ⊎ IsLeafOf ys (get_or (out ++ x ∷ []) k d).row (get_or (out ++ x ∷ []) k d).col) (sym cut)
+    (subst (λ (y : Edge). IsFirstAt G (take k out) y.row ⊎ IsLeafOf (take k out) y.row y.col) (sym read) (h k d p)))
     (λ (p : length out ≤ k).
     let is : length out ≡ k = let n = length_push out x in omega arith in
     let cut : take k (out ++ x ∷ []) ≡ out = take_at out (x ∷ []) k is in
     let read : get_or (out ++ x ∷ []) k d ≡ x = get_or_push out x d k is in
-    subst (λ ys. IsFirstAt g ys (get_or (out ++ x ∷ []) k d).row ⊎ IsLeafOf ys (get_or (out ++ x ∷ []) k d).row (get_or (out ++ x ∷ []) k d).col) (sym cut)
-    (subst (λ (y : Edge). IsFirstAt g out y.row ⊎ IsLeafOf out y.row y.col) (sym read) new))
+    subst (λ ys. IsFirstAt G ys (get_or (out ++ x ∷ []) k d).row ⊎ IsLeafOf ys (get_or (out ++ x ∷ []) k d).row (get_or (out ++ x ∷ []) k d).col) (sym cut)
+    (subst (λ (y : Edge). IsFirstAt G out y.row ⊎ IsLeafOf out y.row y.col) (sym read) new))
     (cases_lt k (length out))
 
 -- taken edges may be listed in another way
@@ -117,7 +117,7 @@ pub ordered_more : (g : Graph) (forest out left : List Edge) (k : ℕ) (x : Edge
     IsOrdered g forest (out ++ x ∷ []) (remove left k)
 ordered_more g forest out left k x h o lt read next = record {
   same = IsPermutation-more forest out left k x lt read o.same;
-  order = order_push g out x o.order (⊎_elim (λ l. inr (leaf l)) (λ none. inl (first none)) next);
+  order = order_push (IsEdge g) out x o.order (⊎_elim (λ l. inr (leaf l)) (λ none. inl (first none)) next);
   split = split_same (HasEdge forest) (And (HasEdge out) x.row x.col) (HasEdge (out ++ x ∷ [])) (HasEdge (remove left k)) there (HasEdge-push out x) (λ u v w. walk-more there w)
       (split_more (HasEdge forest) (HasEdge out) (HasEdge left) (HasEdge (remove left k)) x.row x.col o.split here (HasEdge-remove left k) gone other
       (⊎_elim (λ l. ⊎_elim (λ (p : Touches out (row x.row) × (Touches out (col x.col) → ⊥)). inl (touched out (row x.row) p.0)) (λ (p : Touches out (col x.col) × (Touches out (row x.row) → ⊥)). inr (inl (touched out (col x.col) p.0))) (leaf l))
@@ -143,7 +143,7 @@ ordered_more g forest out left k x h o lt read next = record {
     leaf : ((d : Edge) → IsLeafOf out (get_or left k d).row (get_or left k d).col) → IsLeafOf out x.row x.col
     leaf l = subst (λ (y : Edge). IsLeafOf out y.row y.col) is (l x)
 
-    first : ((i e : ℕ) → HasEdge left i e → IsLeafOf out i e → ⊥) → IsFirstAt g out x.row
+    first : ((i e : ℕ) → HasEdge left i e → IsLeafOf out i e → ⊥) → IsFirstAt (IsEdge g) out x.row
     first none v t w =
         let apart : (v : Vertex) → Touched (HasEdge left) v → Touched (HasEdge out) v → ⊥ = no_leaf_apart g forest out left h o.split none in
         forest_walk g forest h w (λ p. apart (row x.row) (x.col, here) (reached o.split apart v (row x.row) p (touched out v t)))
@@ -172,9 +172,13 @@ no_leaf_more out left n d lt below none k d' small l = ⊎_elim
     (cases_lt k n)
 
 -- each edge of an order has an end that no earlier edge touches
-pub free_end_of-order : (g : Graph) (xs : List Edge) → IsForestOrder g xs → (k : ℕ) (d : Edge) → k < length xs →
+pub free_end_of-order : (G : ℕ → ℕ → Type 0) (xs : List Edge) → IsForestOrder G xs → (k : ℕ) (d : Edge) → k < length xs →
     (Touches (take k xs) (row (get_or xs k d).row) → ⊥) ⊎ (Touches (take k xs) (col (get_or xs k d).col) → ⊥)
-free_end_of-order g xs h k d lt = ⊎_elim
-    (λ (first : IsFirstAt g (take k xs) (get_or xs k d).row). inl (λ t. first (row (get_or xs k d).row) t stay))
+free_end_of-order G xs h k d lt = ⊎_elim
+    (λ (first : IsFirstAt G (take k xs) (get_or xs k d).row). inl (λ t. first (row (get_or xs k d).row) t stay))
     (λ (leaf : IsLeafOf (take k xs) (get_or xs k d).row (get_or xs k d).col). ⊎_elim (λ p. inr p.1) (λ p. inl p.1) leaf)
     (h k d lt)
+
+-- an order for a graph is one for each graph with the same edges
+pub order_same : (G H : ℕ → ℕ → Type 0) (xs : List Edge) → ((i e : ℕ) → H i e → G i e) → IsForestOrder G xs → IsForestOrder H xs
+order_same G H xs back order k d lt = ⊎_elim (λ (first : IsFirstAt G (take k xs) (get_or xs k d).row). inl (λ v t w. first v t (walk-more back w))) (λ leaf. inr leaf) (order k d lt)

@@ -13,7 +13,7 @@ impl Bipartite {
     pub fn forest_order(&self, alloc: Global, forest: &EdgeList) -> Result<EdgeList, AllocError>
         requires { IsFirstForest (IsEdge self.now) forest.now }
         ensures same { IfOk result (IsPermutation forest.now) }
-        ensures order { IfOk result (IsForestOrder self.now) }
+        ensures order { IfOk result (IsForestOrder (IsEdge self.now)) }
     {
         let mut left = forest.as_slice().to_vec(alloc)?;
         let mut order = EdgeList::new(alloc);
