@@ -1,0 +1,15 @@
+pub mod Labels
+pub mod Scaling
+pub mod Greedy
+pub mod Form
+pub mod Compare
+pub mod Unique
+pub mod Least
+pub mod Classes
+pub mod Failing
+pub mod Reading
+pub mod LawsOfForms
+pub mod FirstBasis
+pub mod InOrder
+pub mod Steps
+pub mod Sequence
