@@ -1,0 +1,3 @@
+pub mod Excluding
+pub mod Cites
+pub mod Words

@@ -1,7 +1,7 @@
 -- When a row follows from given ones, and what it excludes.
 use Rattle.std.specs.Prelude.{◌≡◌, ℕ, ◌+◌, ◌<◌, ◌≤◌, List, Option, Some, None, length, slice_get, slice_index, slice_set}
 use Rattle.mr_field.specs.Gf.{order}
-use Rattle.mr_assign.specs.Assign.{IsPartOf}
+use Rattle.mr_assign.specs.Assign.{IsAssign, IsPartOf}
 use Rattle.mr_frame.specs.Frame.{Framed}
 use Rattle.mr_frame.specs.Test.{IsAssignmentOf, SetFails}
 use Rattle.mr_frame.specs.Completion.{IsCompletion}
@@ -36,6 +36,7 @@ Holds f given rank a (Slot s) = (row : Row) × (given s ≡ Some row) × (row.ra
 -- The clause is an assignment that gives no value to the row's position. Whichever value the position is given then, the
 -- cite for it holds. There are no cites for values that the field doesn't have.
 pub record Follows (f : Framed) (given : Rows) (row : Row) : Type 0 where
+  pub map : IsAssign row.clause
   pub clause : IsAssignmentOf f row.clause
   pub position : row.at < length f.places
   pub no_value : slice_index row.clause row.at ≡ 0

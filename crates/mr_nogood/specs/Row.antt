@@ -1,5 +1,5 @@
 -- Rows as the code may hold them.
-use Rattle.std.specs.Prelude.{◌≡◌, ℕ, ◌+◌, ◌^◌, ◌<◌, ◌≤◌, List, length, All, slice_index_or}
+use Rattle.std.specs.Prelude.{◌≡◌, ℕ, ◌^◌, ◌<◌, length, All, slice_index_or}
 use Rattle.mr_set.specs.Elements.{IsSet}
 use Rattle.mr_set.specs.declared.TheConstants.{ELEMENTS}
 use Rattle.mr_assign.specs.Assign.{IsAssign}

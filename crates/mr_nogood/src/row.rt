@@ -1,3 +1,7 @@
+ghost use Rattle.std.specs.Prelude.{◌≡◌, ◌<◌, length};
+ghost use Rattle.mr_assign.specs.declared.TheConstants.{VALUES};
+ghost use Rattle.mr_nogood.specs.Row.{cite_for};
+
 use mr_assign::Assign;
 use mr_set::Set;
 
@@ -17,4 +21,13 @@ pub struct Row {
     pub at: u8,
     pub clause: Assign,
     pub cites: [Cite; 8],
+}
+
+/// The cite for the value k + 1.
+pub(crate) fn cite_at(row: &Row, k: u8) -> &Cite
+    requires { k < VALUES }
+    ensures cite { result.now ≡ cite_for row.now k }
+    ensures count { length row.now.cites ≡ VALUES }
+{
+    &row.cites[k as usize]
 }
