@@ -1,0 +1,13 @@
+pub mod Splitting
+pub mod Pairs
+pub mod Clauses
+pub mod Cites
+pub mod CiteLists
+pub mod Steps
+pub mod StepLines
+pub mod Outcomes
+pub mod LogText
+pub mod Making
+pub mod SharpLog
+pub mod Accepting
+pub mod Pieces

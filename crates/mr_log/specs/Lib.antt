@@ -1,3 +1,6 @@
 pub mod Lines
 pub mod Log
 pub mod Reading
+pub mod Words
+pub mod Stages
+pub mod Written

@@ -1,5 +1,5 @@
 -- Refutation logs, line by line, and whole.
-use Rattle.std.specs.Prelude.{◌≡◌, ℕ, zero, suc, ◌<◌, ◌≤◌, List, [], ◌∷◌, ◌++◌, Some, IsTrue, length, map, slice_get, codes, decimal}
+use Rattle.std.specs.Prelude.{◌≡◌, ℕ, zero, suc, ◌<◌, ◌≤◌, List, [], ◌∷◌, ◌++◌, Some, length, map, slice_get, codes, decimal}
 use Rattle.mr_field.specs.Order.{IsOrder}
 use Rattle.mr_set.specs.Matroid.{Presentation, IsMatroid}
 use Rattle.mr_matroid.specs.Exchange.{IsWithinLimits}

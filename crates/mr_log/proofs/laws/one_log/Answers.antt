@@ -1,0 +1,6 @@
+-- The law as it is proved in Accepting.
+use Rattle.mr_log.proofs.Accepting.{one_log}
+use Rattle.mr_log.proofs.laws.one_log.Goals as goal
+
+pub returns : goal.returns
+returns c = one_log

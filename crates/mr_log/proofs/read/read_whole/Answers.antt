@@ -1,0 +1,29 @@
+-- What the lines stand for is within the limits, and its matroid is made.
+use Rattle.std.proofs.Common.{arith}
+use Rattle.mr_file.specs.Reading.{listing}
+use Rattle.mr_log.specs.Stages.{found_log}
+use Rattle.mr_log.proofs.Making.{text_read, few_nonbases, with_matroid}
+use Rattle.mr_log.proofs.read.read_whole.Goals as goal
+
+pub overflow_cast-file_end : goal.overflow_cast-file_end
+overflow_cast-file_end c =
+    let read = text_read c.args.q c.args.bytes.now (found_log c.args.q c.in-Ok.found) c.in-Ok.ensures in
+    let few = few_nonbases (listing c.in-Ok.found.listed) read.presentation read.limits in
+    let long = c.in-Ok.found.listed.nonbases.ok.0 in
+    omega (arith, few, long)
+
+pub overflow_add-file_end : goal.overflow_add-file_end
+overflow_add-file_end c =
+    let read = text_read c.args.q c.args.bytes.now (found_log c.args.q c.in-Ok.found) c.in-Ok.ensures in
+    let few = few_nonbases (listing c.in-Ok.found.listed) read.presentation read.limits in
+    let long = c.in-Ok.found.listed.nonbases.ok.0 in
+    omega (arith, few, long)
+
+pub matroid_of-requires-clause-sets : goal.matroid_of-requires-clause-sets
+matroid_of-requires-clause-sets c = let read = text_read c.args.q c.args.bytes.now (found_log c.args.q c.in-Ok.found) c.in-Ok.ensures in read.presentation
+
+pub matroid_of-requires-clause-limits : goal.matroid_of-requires-clause-limits
+matroid_of-requires-clause-limits c = let read = text_read c.args.q c.args.bytes.now (found_log c.args.q c.in-Ok.found) c.in-Ok.ensures in read.limits
+
+pub returns-in-Ok-matroid_of-clause-ok : goal.returns-in-Ok-matroid_of-clause-ok
+returns-in-Ok-matroid_of-clause-ok c = with_matroid c.args.q c.args.bytes.now c.in-Ok.found c.in-Ok-matroid_of.matroid c.in-Ok.ensures c.in-Ok-matroid_of.ensures
