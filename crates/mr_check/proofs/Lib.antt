@@ -1,0 +1,4 @@
+pub mod Sound
+pub mod Rejections
+pub mod Walk
+pub mod Verdicts
