@@ -10,7 +10,7 @@ use Rattle.mr_text.specs.Text.{numbers_text, set_text, text_of_lines}
 use Rattle.mr_file.specs.Laws.{FileLength}
 
 -- a line and its newline
-line_length : (l : List ℕ) (ls : List (List ℕ)) → length (text_of_lines (l ∷ ls)) ≡ length l + 1 + length (text_of_lines ls)
+pub line_length : (l : List ℕ) (ls : List (List ℕ)) → length (text_of_lines (l ∷ ls)) ≡ length l + 1 + length (text_of_lines ls)
 line_length l ls =
     let parts = ap length (flat_map-cons (λ (w : List ℕ). w ++ 10 ∷ []) l ls) in
     let whole = length-append (l ++ 10 ∷ []) (text_of_lines ls) in
@@ -18,14 +18,14 @@ line_length l ls =
     omega arith
 
 -- a key and a number
-keyed_length : (key : List ℕ) (v : ℕ) → v < 10 ^ 9 → length (key ++ decimal v) ≤ length key + 9
+pub keyed_length : (key : List ℕ) (v : ℕ) → v < 10 ^ 9 → length (key ++ decimal v) ≤ length key + 9
 keyed_length key v small =
     let short = length-decimal-le 9 v (omega arith) small (omega arith) in
     let both = length-append key (decimal v) in
     omega arith
 
 -- numbers below 32
-numbers_length : (x : List ℕ) → All (λ e. e < 32) x → length (numbers_text x) ≤ 3 * length x
+pub numbers_length : (x : List ℕ) → All (λ e. e < 32) x → length (numbers_text x) ≤ 3 * length x
 numbers_length [] all = omega arith
 numbers_length (e ∷ []) all =
     let low : e < 32 = all 0 e (omega arith) in
@@ -39,7 +39,7 @@ numbers_length (e ∷ d ∷ es) all =
     omega arith
 
 -- a set
-set_length : (n r : ℕ) (x : List ℕ) → n ≤ 32 → r ≤ 32 → IsSetOf n r x → length (set_text x) ≤ 96
+pub set_length : (n r : ℕ) (x : List ℕ) → n ≤ 32 → r ≤ 32 → IsSetOf n r x → length (set_text x) ≤ 96
 set_length n r [] limit most is = omega arith
 set_length n r (e ∷ es) limit most is =
     let size = is.size in
