@@ -11,3 +11,4 @@ pub mod Making
 pub mod SharpLog
 pub mod Accepting
 pub mod Pieces
+pub mod Complete

@@ -16,7 +16,7 @@ use Rattle.mr_nogood.specs.declared.row.Row.{Row}
 use Rattle.mr_nogood.specs.declared.row.Cite.{Cite}
 use Rattle.mr_log.specs.Lines.{step_table, end_table}
 use Rattle.mr_log.specs.Log.{StepsExceed, step_lines}
-use Rattle.mr_log.specs.Stages.{from_end, from_steps, field_text, NamesBad, log_fault}
+use Rattle.mr_log.specs.Stages.{from_end, from_steps, field_text, NamesBad, NamesLine, log_fault}
 use Rattle.mr_log.specs.declared.TheConstants.{STEPS}
 use Rattle.mr_log.specs.declared.log.Log.{Log}
 use Rattle.mr_log.specs.declared.fault.Why.TheVariants.{Grammar, Size, Basis, Exchange, Step, End}
@@ -33,6 +33,11 @@ bad_map P Q (Bad line Exchange) more h = h
 bad_map P Q (Bad line Step) more h = h
 bad_map P Q (Bad line End) more h = h
 bad_map P Q Memory more h = h
+
+-- a refusal of a line is one of the log
+pub line_named : (P : FirstFault Measure → Type 0) (e : LogFault) → NamesLine P e → NamesBad P e
+line_named P (Bad line why) h = h
+line_named P Memory h = absurd h
 
 -- so is a refusal of the file, as one of the log
 pub named : (P Q : FirstFault Measure → Type 0) (f : FileFault) (line : ℕ) (e : LogFault) → e ≡ log_fault f line → ((g : FirstFault Measure) → P g → Q g) → Names P f → NamesBad Q e

@@ -1,5 +1,6 @@
 -- Why a text is no log.
 use Rattle.std.specs.Prelude.{◌≡◌, ◌≢◌, ℕ, ◌+◌, List, length}
+use Rattle.mr_field.specs.Order.{IsOrder}
 use Rattle.mr_set.specs.Matroid.{FailsExchange}
 use Rattle.mr_matroid.specs.Exchange.{HasNoBasis}
 use Rattle.mr_text.specs.Format.{grammar, size, IsTextOf, IsFirstFaultOf}
@@ -41,3 +42,7 @@ NoLogRefusal = (q : ℕ) (bytes : List ℕ) (l : Log) (e : LogFault) → IsLogOf
 -- the bytes are those of one log
 abbrev pub OneLog : Type 0
 OneLog = (q : ℕ) (bytes : List ℕ) (k l : Log) → IsLogOf q bytes k → IsLogOf q bytes l → k ≡ l
+
+-- a text over a field that is no log has a fault
+abbrev pub EachTextIsALogOrAtFault : Type 0
+EachTextIsALogOrAtFault = (q : ℕ) (bytes : List ℕ) → IsOrder q → ((l : Log) → ¬ (IsLogOf q bytes l)) → ((line : ℕ) (why : Why) → ¬ (IsLogFault q bytes line why)) → ⊥

@@ -60,6 +60,11 @@ abbrev pub NamesBad : (FirstFault Measure → Type 0) → LogFault → Type 0
 NamesBad P (Bad line why) = NamesCause P line why
 NamesBad P Memory = Unit {0}
 
+-- the fault of a line that a refusal names, where no memory is taken
+abbrev pub NamesLine : (FirstFault Measure → Type 0) → LogFault → Type 0
+NamesLine P (Bad line why) = NamesCause P line why
+NamesLine P Memory = ⊥
+
 -- a refusal of the file as one of the log, where this line ends the file
 abbrev pub log_fault : FileFault → ℕ → LogFault
 log_fault (file_fault.Grammar line) end = Bad line Grammar

@@ -1,4 +1,4 @@
-ghost use Rattle.mr_log.specs.Reading.{OneLogRefusal, NoLogRefusal, OneLog};
+ghost use Rattle.mr_log.specs.Reading.{OneLogRefusal, NoLogRefusal, OneLog, EachTextIsALogOrAtFault};
 
 /// A text is refused for one cause.
 pub fn one_log_refusal()
@@ -13,4 +13,9 @@ pub fn no_log_refusal()
 /// The bytes are those of one log.
 pub fn one_log()
     ensures { OneLog }
+{}
+
+/// A text is a log or has a fault.
+pub fn each_text_is_a_log_or_at_fault()
+    ensures { EachTextIsALogOrAtFault }
 {}

@@ -14,7 +14,7 @@ mod words;
 mod write;
 
 pub use fault::{LogFault, Why};
-pub use laws::{no_log_refusal, one_log, one_log_refusal};
+pub use laws::{each_text_is_a_log_or_at_fault, no_log_refusal, one_log, one_log_refusal};
 pub use log::Log;
 pub use read::read_log;
 pub use write::write_log;

@@ -4,7 +4,7 @@ ghost use Rattle.mr_text.specs.Format.{IsLineOf, IsLineFault};
 ghost use Rattle.mr_file.specs.Reading.{listing};
 ghost use Rattle.mr_log.specs.Lines.{IsStepLine, IsEndLine, step_table, end_table};
 ghost use Rattle.mr_log.specs.Words.{Reads, position_words};
-ghost use Rattle.mr_log.specs.Stages.{NamesBad};
+ghost use Rattle.mr_log.specs.Stages.{NamesLine};
 ghost use Rattle.mr_nogood.specs.declared.row.Row.{Row};
 
 use crate::cite::{read_cite, read_cites, read_number};
@@ -79,7 +79,7 @@ pub fn step_line<'a>(
 ) -> Result<(Row, &'a [u8]), LogFault>
     requires elements { listed.now.elements ≤ 32 }
     requires field { (2 ≤ q) × (q ≤ 9) }
-    ensures { MatchResult result (λ x. IsLineOf (step_table (listing listed.now) q number) bytes.now x.0 x.1.now) (NamesBad (IsLineFault (step_table (listing listed.now) q number) line_number bytes.now)) }
+    ensures { MatchResult result (λ x. IsLineOf (step_table (listing listed.now) q number) bytes.now x.0 x.1.now) (NamesLine (IsLineFault (step_table (listing listed.now) q number) line_number bytes.now)) }
 {
     match split_once(bytes, b'\n') {
         None => Err(LogFault::Bad {
@@ -119,7 +119,7 @@ pub fn end_line<'a>(
     listed: &Listed,
 ) -> Result<(Cite, &'a [u8]), LogFault>
     requires { listed.now.elements ≤ 32 }
-    ensures { MatchResult result (λ x. IsLineOf (end_table (listing listed.now)) bytes.now x.0 x.1.now) (NamesBad (IsLineFault (end_table (listing listed.now)) line_number bytes.now)) }
+    ensures { MatchResult result (λ x. IsLineOf (end_table (listing listed.now)) bytes.now x.0 x.1.now) (NamesLine (IsLineFault (end_table (listing listed.now)) line_number bytes.now)) }
 {
     match split_once(bytes, b'\n') {
         None => Err(LogFault::Bad {

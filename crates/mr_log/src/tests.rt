@@ -188,3 +188,41 @@ fn a_step_has_one_spelling(rt: HostRuntime) -> Result<(), Fail> {
     }
     Ok(())
 }
+
+#[test]
+fn a_log_over_each_larger_field_is_read_and_written_again(rt: HostRuntime) -> Result<(), Fail> {
+    let alloc = rt.alloc();
+    let cases: [(u32, &[u8]); 5] = [
+        (
+            4,
+            b"refutation 1\nfield 4\nmatroid 1\nelements 4\nrank 2\nnonbases 0\nend\nsteps 1\nat 0 if 7:3 95:1 by t 2 3 s 0 t 0 1\nend s 0\n",
+        ),
+        (
+            5,
+            b"refutation 1\nfield 5\nmatroid 1\nelements 4\nrank 2\nnonbases 0\nend\nsteps 1\nat 95 if - by t 2 3 s 0 t 0 1 t 1 2\nend t 0 3\n",
+        ),
+        (
+            7,
+            b"refutation 1\nfield 7\nmatroid 1\nelements 1\nrank 0\nnonbases 0\nend\nsteps 1\nat 0 if 0:6 by t - s 0 t - t - s 1 t -\nend t -\n",
+        ),
+        (
+            8,
+            b"refutation 1\nfield 8\nmatroid 1\nelements 4\nrank 2\nnonbases 0\nend\nsteps 1\nat 0 if 1:7 by t 2 3 t 2 3 t 2 3 t 2 3 t 2 3 t 2 3 s 999999999\nend s 0\n",
+        ),
+        (
+            9,
+            b"refutation 1\nfield 9\nmatroid 1\nelements 4\nrank 2\nnonbases 0\nend\nsteps 1\nat 0 if 7:8 8:1 by s 0 s 1 s 2 s 3 s 4 s 5 s 6 t 2 3\nend s 0\n",
+        ),
+    ];
+    for (q, bytes) in cases {
+        if bytes.len() > 1000 {
+            return Err("the texts are short".into());
+        }
+        let field = Field::of(q).ok_or("there is such a field")?;
+        let log = read_log(alloc, bytes, field)?;
+        assert_eq!(rt; log.steps.as_slice().len(), 1);
+        let text = write_log(alloc, &log)?;
+        assert_eq!(rt; text.as_bytes(), bytes);
+    }
+    Ok(())
+}

@@ -1,19 +1,20 @@
 -- A line of a step more, and the last line.
 use Rattle.std.proofs.Common.{◌+◌, ◌-◌, ◌∷◌, [], ◌∙◌, List, length, ap, sym, subst, arith}
 use Rattle.std.proofs.lemmas.List.{length-append}
+use Rattle.mr_text.specs.Format.{IsLineFault}
 use Rattle.mr_text.proofs.Formats.{shorter}
 use Rattle.mr_text.proofs.Leads.{Leads}
 use Rattle.mr_file.specs.Reading.{listing}
 use Rattle.mr_nogood.specs.declared.row.Row.{Row}
-use Rattle.mr_log.specs.Lines.{step_table}
+use Rattle.mr_log.specs.Lines.{step_table, end_table}
 use Rattle.mr_log.specs.Stages.{from_steps}
-use Rattle.mr_log.proofs.Outcomes.{Start, steps_on, steps_fault, steps_end, end_fault, end_value}
+use Rattle.mr_log.proofs.Outcomes.{line_named, Start, steps_on, steps_fault, steps_end, end_fault, end_value}
 use Rattle.mr_log.proofs.read.read_steps.Goals as goal
 
 pub returns-in-Err : goal.returns-in-Err
 returns-in-Err c =
     steps_fault c.args.q (listing c.args.listed) c.args.count (c.args.count - c.loop-number.number) (c.args.count - (c.loop-number.number + 1)) c.args.line_number c.args.bytes.now c.loop-number.steps c.loop-number.number c.loop-number.at c.loop-number.rest.now c.in-Err.e
-    (omega arith) c.loop-number.invariant.count c.loop-number.invariant.leads c.in-Err.ensures
+    (omega arith) c.loop-number.invariant.count c.loop-number.invariant.leads (line_named (IsLineFault (step_table (listing c.args.listed) c.args.q c.loop-number.number) c.loop-number.at c.loop-number.rest.now) c.in-Err.e c.in-Err.ensures)
 
 pub loop-number-preserved : goal.loop-number-preserved
 loop-number-preserved c =
@@ -36,7 +37,7 @@ pub returns-in-Err-end_line : goal.returns-in-Err-end_line
 returns-in-Err-end_line c =
     end_fault c.args.q (listing c.args.listed) c.args.count c.args.line_number c.args.bytes.now c.loop-number.steps c.loop-number.at c.loop-number.rest.now c.in-Err-end_line.e
     (steps_end c.args.q (listing c.args.listed) c.args.count (c.args.count - c.loop-number.number) c.args.line_number c.args.bytes.now c.loop-number.steps c.loop-number.at c.loop-number.rest.now (omega arith) c.loop-number.invariant.leads)
-    c.in-Err-end_line.ensures
+    (line_named (IsLineFault (end_table (listing c.args.listed)) c.loop-number.at c.loop-number.rest.now) c.in-Err-end_line.e c.in-Err-end_line.ensures)
 
 pub returns : goal.returns
 returns c =
