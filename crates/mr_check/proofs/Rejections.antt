@@ -1,19 +1,17 @@
 -- A text is accepted, or rejected for one cause.
-use Rattle.std.proofs.Common.{◌≡◌, ◌≢◌, ℕ, ◌+◌, ◌<◌, ◌≤◌, ◌⊎◌, List, length, refl, sym, ap, subst, ◌∙◌, inl, inr, ⊎_elim, arith}
-use Rattle.std.proofs.lemmas.Bool.{cases_eq, cases_lt}
+use Rattle.std.proofs.Common.{◌≡◌, ◌≢◌, ℕ, ◌<◌, ◌≤◌, ◌⊎◌, List, length, refl, sym, ap, subst, ◌∙◌, inl, inr, ⊎_elim, arith}
+use Rattle.std.proofs.lemmas.Bool.{cases_lt}
 use Rattle.mr_field.specs.Gf.{Gf, order}
-use Rattle.mr_frame.specs.Frame.{Framed, IsFrame, IsFrameOf}
+use Rattle.mr_frame.specs.Frame.{Framed, IsFrameOf}
 use Rattle.mr_frame.proofs.OneFrame.{one_frame}
-use Rattle.mr_nogood.specs.declared.row.Row.{Row}
 use Rattle.mr_log.specs.declared.log.Log.{Log}
 use Rattle.mr_log.specs.declared.fault.Why.{Why}
 use Rattle.mr_log.specs.declared.fault.Why.TheVariants.{Grammar, Size, Basis, Exchange, Step, End}
-use Rattle.mr_log.specs.declared.fault.LogFault.{LogFault}
 use Rattle.mr_log.specs.declared.fault.LogFault.TheVariants.{Bad, Memory}
 use Rattle.mr_log.specs.Log.{IsLogOf}
 use Rattle.mr_log.specs.Reading.{IsLogFault}
 use Rattle.mr_log.proofs.Accepting.{one_log, no_log_refusal, one_log_refusal}
-use Rattle.mr_check.specs.Accepted.{StepFollows, IsEnd, IsAcceptedLog, step_line, IsFirstStray, IsBadEnd, IsRejection}
+use Rattle.mr_check.specs.Accepted.{StepFollows, IsEnd, step_line, IsFirstStray, IsBadEnd, IsRejection}
 use Rattle.mr_check.specs.Laws.{AcceptedLogsAreNotRejected, OneRejection}
 
 -- a refusal of a log names one line and one cause

@@ -1,9 +1,7 @@
 -- The matroid of an accepted log has no form.
-use Rattle.std.proofs.Common.{◌≡◌, ◌≢◌, ℕ, zero, suc, ◌+◌, ◌<◌, ◌≤◌, List, [], ◌∷◌, Option, Some, None, length, take, refl, sym, ap, subst, ◌∙◌, ⊎_elim, arith}
+use Rattle.std.proofs.Common.{◌≡◌, ℕ, zero, suc, ◌+◌, ◌<◌, List, [], ◌∷◌, Some, take, sym, subst, ◌∙◌, arith}
 use Rattle.std.specs.Prelude.{slice_get}
 use Rattle.std.proofs.lemmas.Option.{slice_get_past}
-use Rattle.mr_field.specs.Gf.{Gf, order}
-use Rattle.mr_linear.specs.Matrix.{Grid}
 use Rattle.mr_linear.specs.Representation.{Represents}
 use Rattle.mr_assign.specs.Assign.{no_values}
 use Rattle.mr_frame.specs.Frame.{Framed, IsFrame}
@@ -11,11 +9,10 @@ use Rattle.mr_frame.specs.Completion.{IsCompletion}
 use Rattle.mr_nogood.specs.declared.row.Cite.{Cite}
 use Rattle.mr_nogood.specs.declared.row.Cite.TheVariants.{Nothing, Test, Slot}
 use Rattle.mr_nogood.specs.declared.row.Row.{Row}
-use Rattle.mr_nogood.specs.Follows.{in_list, Follows, Excludes}
+use Rattle.mr_nogood.specs.Follows.{in_list, Excludes}
 use Rattle.mr_nogood.proofs.Excluding.{fails_more, completes_part, rows_that_follow_exclude}
 use Rattle.mr_class.proofs.LawsOfForms.{same_field, each_has_one_form}
-use Rattle.mr_log.specs.declared.log.Log.{Log}
-use Rattle.mr_check.specs.Accepted.{StepFollows, IsEnd, IsAcceptedLog}
+use Rattle.mr_check.specs.Accepted.{StepFollows, IsEnd}
 use Rattle.mr_check.specs.Laws.{AcceptedLogsRefute}
 
 -- what stands at a place of a front stands there in the list, and the place is within the front

@@ -1,5 +1,5 @@
 -- The verdict on a text from that of reading it and that on the log.
-use Rattle.std.proofs.Common.{◌≡◌, ◌≢◌, ℕ, List, length, refl, sym, ap, subst, ◌∙◌, Result, Ok, Err}
+use Rattle.std.proofs.Common.{◌≡◌, ℕ, List, length, refl, ap, subst, ◌∙◌, Result, Ok, Err}
 use Rattle.std.specs.Prelude.{IfOk, IfErr, MatchResult}
 use Rattle.mr_field.specs.Gf.{Gf, order}
 use Rattle.mr_linear.specs.Representation.{HasNoRepresentation}
@@ -7,14 +7,13 @@ use Rattle.mr_log.specs.Log.{IsLogOf}
 use Rattle.mr_log.specs.Reading.{IsLogRefusal}
 use Rattle.mr_log.proofs.Accepting.{one_log}
 use Rattle.mr_log.specs.declared.log.Log.{Log}
-use Rattle.mr_log.specs.declared.fault.Why.{Why}
 use Rattle.mr_log.specs.declared.fault.Why.TheVariants.{Grammar, Size, Basis, Exchange, Step, End}
 use Rattle.mr_log.specs.declared.fault.LogFault.{LogFault}
 use Rattle.mr_log.specs.declared.fault.LogFault.TheVariants.{Bad, Memory}
 use Rattle.mr_check.specs.declared.checker.Accepted.{Accepted}
 use Rattle.mr_check.specs.declared.checker.CheckFault.{CheckFault}
 use Rattle.mr_check.specs.declared.checker.CheckFault.TheVariants as check
-use Rattle.mr_check.specs.Accepted.{IsRefutation, IsAcceptedLog, IsRejection, IsRejected}
+use Rattle.mr_check.specs.Accepted.{IsRefutation, IsAcceptedLog, IsRejected}
 use Rattle.mr_check.specs.Judging.{IsFaulty, as_check_fault}
 use Rattle.mr_check.proofs.Sound.{refutes}
 use Rattle.mr_check.proofs.Rejections.{accepted_is_not_rejected}

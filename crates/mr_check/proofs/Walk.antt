@@ -1,6 +1,6 @@
 -- A walk over the steps of a log, and its end.
-use Rattle.std.proofs.Common.{◌≡◌, ◌≢◌, ◌↔◌, ℕ, zero, suc, ◌+◌, ◌<◌, ◌≤◌, List, [], ◌∷◌, Option, Some, None, Result, Ok, Err, Bool, true, false, length, take, get_or, refl, sym, ap, subst, ◌∙◌, ⊎_elim, arith, ◌^◌}
-use Rattle.std.specs.Prelude.{slice_get, replicate, IsTrue, MatchResult}
+use Rattle.std.proofs.Common.{◌≡◌, ◌≢◌, ◌↔◌, ℕ, zero, suc, ◌+◌, ◌<◌, ◌≤◌, List, [], ◌∷◌, Some, Result, Ok, Err, Bool, length, take, get_or, sym, ap, subst, ◌∙◌, ⊎_elim, arith, ◌^◌}
+use Rattle.std.specs.Prelude.{slice_get, IsTrue, MatchResult}
 use Rattle.std.proofs.lemmas.Bool.{cases_eq, cases_lt}
 use Rattle.std.proofs.lemmas.Option.{slice_get_past}
 use Rattle.std.proofs.lemmas.List.{get_or-replicate, get_or_past}
@@ -11,12 +11,12 @@ use Rattle.mr_assign.specs.declared.TheConstants.{POSITIONS}
 use Rattle.mr_frame.specs.Frame.{Framed, IsFrame, IsFrameOf}
 use Rattle.mr_frame.specs.Test.{IsAssignmentOf}
 use Rattle.mr_nogood.specs.declared.row.Cite.{Cite}
-use Rattle.mr_nogood.specs.declared.row.Cite.TheVariants.{Nothing, Test, Slot}
+use Rattle.mr_nogood.specs.declared.row.Cite.TheVariants.{Slot}
 use Rattle.mr_nogood.specs.declared.row.Row.{Row}
 use Rattle.mr_nogood.specs.Follows.{in_list, Follows}
 use Rattle.mr_log.specs.declared.log.Log.{Log}
 use Rattle.mr_log.specs.Log.{IsLog}
-use Rattle.mr_check.specs.Accepted.{StepFollows, IsEnd, IsRefutation}
+use Rattle.mr_check.specs.Accepted.{IsEnd, IsRefutation}
 use Rattle.mr_check.specs.Judging.{FollowBelow, AllFollow, IsFirstStrayStep, IsFaulty, IsSettled, IsFaultAt}
 use Rattle.mr_check.specs.declared.checker.Accepted.{Accepted}
 use Rattle.mr_check.specs.declared.checker.CheckFault.{CheckFault}

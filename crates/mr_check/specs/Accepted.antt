@@ -1,5 +1,5 @@
 -- Logs that are accepted, and why a text is not.
-use Rattle.std.specs.Prelude.{◌≡◌, ◌⊎◌, ℕ, ◌+◌, ◌<◌, List, Some, length, take, slice_get, slice_index}
+use Rattle.std.specs.Prelude.{◌≡◌, ℕ, ◌+◌, ◌<◌, List, Some, length, take, slice_get, slice_index}
 use Rattle.mr_field.specs.Gf.{Gf, order}
 use Rattle.mr_assign.specs.Assign.{no_values}
 use Rattle.mr_frame.specs.Frame.{Framed, IsFrameOf}
@@ -12,7 +12,7 @@ use Rattle.mr_log.specs.Log.{IsLogOf}
 use Rattle.mr_log.specs.Reading.{IsLogFault}
 use Rattle.mr_log.specs.declared.log.Log.{Log}
 use Rattle.mr_log.specs.declared.fault.Why.{Why}
-use Rattle.mr_log.specs.declared.fault.Why.TheVariants.{Grammar, Size, Basis, Exchange, Step, End}
+use Rattle.mr_log.specs.declared.fault.Why.TheVariants.{Step, End}
 use Rattle.mr_check.specs.declared.checker.CheckFault.{CheckFault}
 use Rattle.mr_check.specs.declared.checker.CheckFault.TheVariants.{Rejected, Memory}
 

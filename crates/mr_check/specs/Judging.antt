@@ -5,10 +5,9 @@ use Rattle.mr_frame.specs.Frame.{Framed}
 use Rattle.mr_nogood.specs.declared.row.Cite.{Cite}
 use Rattle.mr_nogood.specs.declared.row.Row.{Row}
 use Rattle.mr_log.specs.declared.log.Log.{Log}
-use Rattle.mr_log.specs.declared.fault.Why.{Why}
 use Rattle.mr_log.specs.declared.fault.LogFault.{LogFault}
 use Rattle.mr_log.specs.declared.fault.LogFault.TheVariants as log
-use Rattle.mr_log.specs.declared.fault.Why.TheVariants.{Grammar, Size, Basis, Exchange, Step, End}
+use Rattle.mr_log.specs.declared.fault.Why.TheVariants.{Step, End}
 use Rattle.mr_check.specs.Accepted.{StepFollows, IsEnd, IsFirstStray, IsBadEnd}
 use Rattle.mr_check.specs.declared.checker.CheckFault.{CheckFault}
 use Rattle.mr_check.specs.declared.checker.CheckFault.TheVariants.{Rejected, Memory}

@@ -47,7 +47,10 @@ fn another_text_is_rejected_at_its_first_fault(rt: HostRuntime) -> Result<(), Fa
         (b"", 2, 1, Why::Grammar),
     ];
     for (bytes, q, line, why) in cases {
-        assert_eq!(rt; verdict(rt.alloc(), bytes, q)?, Err(CheckFault::Rejected { line, why }));
+        assert_eq!(rt;
+            verdict(rt.alloc(), bytes, q)?,
+            Err(CheckFault::Rejected { line, why })
+        );
     }
     Ok(())
 }
