@@ -1,9 +1,10 @@
 pub mod Ending
 pub mod Blocks
-pub mod Fill
-pub mod Failing
+pub mod Printed
 pub mod Solved
-pub mod Logs
+pub mod Checked
 pub mod Refused
-pub mod Offences
+pub mod Commands
+pub mod OneReading
 pub mod OneEnd
+pub mod Rechecked

@@ -1,15 +1,13 @@
 -- For given words and bytes one exit and one text are due.
-use Rattle.std.proofs.Common.{◌≡◌, ◌≢◌, ◌⊎◌, ◌↔◌, ℕ, ◌+◌, ◌≤◌, true, false, List, [], ◌++◌, length, get_or, refl, sym, ap, subst, ◌∙◌, inl, inr, ⊎_elim, arith, take, Option, Some, None}
-use Rattle.std.specs.Prelude.{◌<◌, Contains, MatchOption}
+use Rattle.std.proofs.Common.{◌≡◌, ◌≢◌, ◌⊎◌, ℕ, ◌+◌, ◌≤◌, List, [], ◌++◌, length, refl, sym, ap, subst, ◌∙◌, inl, inr, ⊎_elim, arith, take, Option, Some, None}
+use Rattle.std.specs.Prelude.{◌<◌}
 use Rattle.std.specs.Io.KnownBytes.{Keeps}
-use Rattle.std.proofs.lemmas.Bool.{cases_eq, cases_lt, cases_Bool, both_ways}
+use Rattle.std.proofs.lemmas.Bool.{cases_lt}
 use Rattle.std.proofs.lemmas.List.{append_cancel_left, length-append}
 use Rattle.std.proofs.Math.Seq.{take-append_seam}
 use Rattle.mr_field.specs.Gf.{Gf, order}
-use Rattle.mr_set.specs.Elements.{is_element, with_element, without_element}
-use Rattle.mr_set.specs.Matroid.{Presentation, IsBasis}
-use Rattle.mr_set.proofs.Members.{is_element-from_Contains}
-use Rattle.mr_set.proofs.Uniqueness.{same-from_unordered, first_basis-same}
+use Rattle.mr_set.specs.Matroid.{Presentation}
+use Rattle.mr_set.proofs.Uniqueness.{same-from_unordered}
 use Rattle.mr_matroid.specs.Exchange.{HasNoBasis, IsFirstFailure}
 use Rattle.mr_matroid.proofs.Verdicts.{one_first_failure}
 use Rattle.mr_text.specs.Format.{grammar, size, IsTextOf}
@@ -18,21 +16,27 @@ use Rattle.mr_file.specs.File.{IsFileOf}
 use Rattle.mr_file.specs.Reading.{whole_file}
 use Rattle.mr_file.proofs.SharpFile.{file_sharp}
 use Rattle.mr_file.proofs.Accepting.{text_of_file}
-use Rattle.mr_linear.specs.Matrix.{Grid, height, entry}
-use Rattle.mr_linear.proofs.Grids.{same_grids, entry-lt}
-use Rattle.mr_linear.proofs.Places.{IsBasisOf-places}
 use Rattle.mr_linear.proofs.Unique.{one-answer}
-use Rattle.matrep.specs.Words.{first_offence}
-use Rattle.matrep.specs.Texts.{usage_text, answer_text, log_text, refusal_text}
-use Rattle.matrep.specs.Binary.{IsFilled, IsFirstToFail, IsFirstFailing}
-use Rattle.matrep.specs.Result.{ListsAnswer, Refutes, IsAtFault, AllowsFile, Allows}
-use Rattle.matrep.specs.Headline.{Takes}
+use Rattle.mr_assign.specs.Assign.{no_values}
+use Rattle.mr_frame.specs.Frame.{Framed}
+use Rattle.mr_frame.specs.Test.{IsFirstFailing}
+use Rattle.mr_frame.proofs.OneFrame.{one_frame}
+use Rattle.mr_class.proofs.LawsOfForms.{same_field}
+use Rattle.mr_log.specs.Log.{log_text}
+use Rattle.mr_check.specs.Accepted.{IsAcceptedLog, IsRejection}
+use Rattle.mr_check.proofs.Rejections.{accepted_is_not_rejected, rejected_once}
+use Rattle.matrep.specs.Words.{Says, IsFirstOffence}
+use Rattle.matrep.specs.Texts.{usage_text, answer_text, refusal_text, accepted_text, rejected_text}
+use Rattle.matrep.specs.Result.{ListsAnswer, short_log, Refutes, IsAtFault, AllowsFile, AcceptsLog, RejectsLog, AllowsCheck, limit_of, Answers, Allows}
+use Rattle.matrep.specs.Headline.{Takes, IsAnswered, IsMisused, IsDue}
 use Rattle.matrep.specs.Laws.{OneEndIsDue}
-use Rattle.matrep.specs.declared.TheConstants.{FILE_BYTES}
+use Rattle.matrep.specs.declared.words.Command.{Command}
+use Rattle.matrep.specs.declared.words.Command.TheVariants.{Solve, Check}
 use Rattle.matrep.specs.declared.outcome.Exit.{Exit}
 use Rattle.matrep.specs.declared.outcome.Exit.TheVariants.{Done, Negative, Refused, Usage, Memory, ReadFault, WriteFault}
 use Rattle.matrep.specs.declared.outcome.Fault.{Fault}
 use Rattle.matrep.specs.declared.outcome.Fault.TheVariants.{TooLong, Grammar, Size, NoBasis, Exchange}
+use Rattle.matrep.proofs.OneReading.{one_command, no_offence, one_offence}
 
 -- a text stands for one matroid
 same_text : (bytes : List ℕ) (m k : Presentation) → IsTextOf whole_file bytes m → IsTextOf whole_file bytes k → m ≡ k
@@ -83,60 +87,9 @@ no_fault bytes m (Exchange b1 b2 x) is (k, text, failure) =
     let there = subst (λ (p : Presentation). IsFirstFailure p b1 b2 x) (sym (same_text bytes m k (text_of_file bytes m is) text)) failure in
     is.matroid.exchange b1 b2 x there.fails
 
--- numbers below two that are 1 just where a fact holds
-alike : {P : Type 0} (u v : ℕ) → u < 2 → v < 2 → (u ≡ 1) ↔ P → (v ≡ 1) ↔ P → u ≡ v
-alike u v small low tells says = ⊎_elim
-    (λ (one : u ≡ 1). one ∙ sym (says.1 (tells.0 one)))
-    (λ (other : u ≢ 1). ⊎_elim (λ (one : v ≡ 1). absurd (other (tells.1 (says.0 one)))) (λ (none : v ≢ 1). omega arith) (cases_eq v 1))
-    (cases_eq u 1)
-
--- there is one filled matrix of a basis
-one_filled : (m : Presentation) (b : List ℕ) (a d : Grid) → IsBasis m b → IsFilled m b a → IsFilled m b d → a ≡ d
-one_filled m b a d basis p q =
-    same_grids a d p.fits.grid q.fits.grid (record { field = p.field ∙ sym q.field; rows = p.fits.rows ∙ sym q.fits.rows; cols = p.fits.cols ∙ sym q.fits.cols }) same
-  where
-    rows : height a ≡ m.rank
-    rows = p.fits.rows
-
-    cols : a.cols ≡ m.elements
-    cols = p.fits.cols
-
-    rows_too : height d ≡ m.rank
-    rows_too = q.fits.rows
-
-    cols_too : d.cols ≡ m.elements
-    cols_too = q.fits.cols
-
-    at_basis : (i j : ℕ) → i < m.rank → is_element b j ≡ true → entry a i j ≡ entry d i j
-    at_basis i j l inside =
-        let place = (IsBasisOf-places m.elements m.rank b basis.0).place j inside in
-        let count : length b ≡ m.rank = basis.0.size in
-        let one = p.identity i place.0 (omega (arith, rows)) (omega (arith, place.1)) in
-        let other = q.identity i place.0 (omega (arith, rows_too)) (omega (arith, place.1)) in
-        subst (λ (k : ℕ). entry a i k ≡ entry d i k) (sym place.2) (one ∙ sym other)
-
-    outside : (i j : ℕ) → i < m.rank → j < m.elements → is_element b j ≡ false → entry a i j ≡ entry d i j
-    outside i j l k out =
-        let not_in : ¬ (Contains b j) = λ inside. both_ways (is_element b j) out (is_element-from_Contains b j inside) in
-        let small : entry a i j < 2 = subst (λ (f : Gf). entry a i j < order f) p.field (entry-lt a p.fits.grid i j (omega (arith, rows)) (omega (arith, cols))) in
-        let low : entry d i j < 2 = subst (λ (f : Gf). entry d i j < order f) q.field (entry-lt d q.fits.grid i j (omega (arith, rows_too)) (omega (arith, cols_too))) in
-        alike {P = IsBasis m (with_element j (without_element (get_or b i 0) b))} (entry a i j) (entry d i j) small low (p.edges i j l k not_in) (q.edges i j l k not_in)
-
-    same : (i j : ℕ) → i < height a → j < a.cols → entry a i j ≡ entry d i j
-    same i j l k = ⊎_elim
-        (λ (inside : is_element b j ≡ true). at_basis i j (omega (arith, rows)) inside)
-        (λ (out : is_element b j ≡ false). outside i j (omega (arith, rows)) (omega (arith, cols)) out)
-        (cases_Bool (is_element b j))
-
 -- one set is the first that fails
-one_first_failing : (m : Presentation) (x y : List ℕ) → IsFirstFailing m x → IsFirstFailing m y → x ≡ y
-one_first_failing m x y p q =
-    let bases : p.basis ≡ q.basis = first_basis-same m p.basis q.basis p.first q.first in
-    let filled : IsFilled m p.basis q.matrix = subst (λ (b : List ℕ). IsFilled m b q.matrix) (sym bases) q.filled in
-    let matrices : p.matrix ≡ q.matrix = one_filled m p.basis p.matrix q.matrix p.first.basis p.filled filled in
-    let there : IsFirstToFail m p.basis q.matrix y = subst (λ (b : List ℕ). IsFirstToFail m b q.matrix y) (sym bases) q.set in
-    let set : IsFirstToFail m p.basis p.matrix y = subst (λ (a : Grid). IsFirstToFail m p.basis a y) (sym matrices) there in
-    same-from_unordered x y (set.least x p.set.size p.set.fails) (p.set.least y set.size set.fails)
+one_first_failing : (f : Framed) (x y : List ℕ) → IsFirstFailing f no_values x → IsFirstFailing f no_values y → x ≡ y
+one_first_failing f x y p q = same-from_unordered x y (q.least x p.fails) (p.least y q.fails)
 
 -- a file is solved by its answer or refuted, and another text is refused
 abbrev Ended : List ℕ → Exit → List ℕ → Type 0
@@ -160,10 +113,12 @@ Solved m e t = ((e ≡ Done) × ListsAnswer m t) ⊎ ((e ≡ Negative) × Refute
 one_solved : (m : Presentation) (e f : Exit) (t u : List ℕ) → Solved m e t → Solved m f u → (e ≡ f) × (t ≡ u)
 one_solved m e f t u (inl (done, (xs, is, some, text))) (inl (other, (ys, at, more, line))) =
     (done ∙ sym other, text ∙ ap (answer_text 2) (one-answer m 2 xs ys is at) ∙ sym line)
-one_solved m e f t u (inl (done, (xs, is, some, text))) (inr (other, (x, none, at, first, line))) = absurd (some (one-answer m 2 xs [] is at))
-one_solved m e f t u (inr (done, (x, none, is, first, text))) (inl (other, (ys, at, more, line))) = absurd (more (one-answer m 2 ys [] at is))
-one_solved m e f t u (inr (done, (x, none, is, first, text))) (inr (other, (y, none_too, at, first_too, line))) =
-    (done ∙ sym other, text ∙ ap (log_text 2 m) (one_first_failing m x y first first_too) ∙ sym line)
+one_solved m e f t u (inl (done, (xs, is, some, text))) (inr (other, refuted)) = absurd (some (one-answer m 2 xs [] is refuted.empty))
+one_solved m e f t u (inr (done, refuted)) (inl (other, (ys, at, more, line))) = absurd (more (one-answer m 2 ys [] at refuted.empty))
+one_solved m e f t u (inr (done, p)) (inr (other, q)) =
+    let frames : p.frame ≡ q.frame = one_frame p.frame q.frame p.is_frame.frame q.is_frame.frame (p.is_frame.matroid ∙ sym q.is_frame.matroid) (p.is_frame.over ∙ sym q.is_frame.over) in
+    let set : p.set ≡ q.set = one_first_failing p.frame p.set q.set p.first (subst (λ (x : Framed). IsFirstFailing x no_values q.set) (sym frames) q.first) in
+    (done ∙ sym other, p.text_is ∙ ap (λ (x : List ℕ). log_text (short_log m x)) set ∙ sym q.text_is)
 
 one_ended : (bytes : List ℕ) (e f : Exit) (t u : List ℕ) → Ended bytes e t → Ended bytes f u → (e ≡ f) × (t ≡ u)
 one_ended bytes e f t u (inl (fault, exit, text, at)) (inl (other, end, line, too)) =
@@ -174,12 +129,45 @@ one_ended bytes e f t u (inr (m, is, solved)) (inr (k, at, other)) =
     let same : m ≡ k = same_text bytes m k (text_of_file bytes m is) (text_of_file bytes k at) in
     one_solved m e f t u solved (subst (λ (p : Presentation). Solved p f u) (sym same) other)
 
--- one exit and one text are allowed for the bytes
-pub one_allowed : (bytes : List ℕ) (e f : Exit) (t u : List ℕ) → Allows bytes e t → Allows bytes f u → (e ≡ f) × (t ≡ u)
-one_allowed bytes e f t u (inl p) (inl q) = (p.1 ∙ sym q.1, p.2 ∙ sym q.2)
-one_allowed bytes e f t u (inl p) (inr q) = let long = p.0 in let short = q.0 in absurd (omega (arith, long, short))
-one_allowed bytes e f t u (inr p) (inl q) = let long = q.0 in let short = p.0 in absurd (omega (arith, long, short))
-one_allowed bytes e f t u (inr p) (inr q) = one_ended bytes e f t u (ended bytes e t p.1) (ended bytes f u q.1)
+-- a text is accepted as a log or rejected
+abbrev Judged : ℕ → List ℕ → Exit → List ℕ → Type 0
+Judged q bytes e t = ((e ≡ Done) × AcceptsLog q bytes t) ⊎ ((e ≡ Negative) × RejectsLog q bytes t)
+
+judged : (q : ℕ) (bytes : List ℕ) (e : Exit) (t : List ℕ) → AllowsCheck q bytes e t → Judged q bytes e t
+judged q bytes Done t accepts = inl (refl, accepts)
+judged q bytes Negative t rejects = inr (refl, rejects)
+judged q bytes (Refused fault) t none = absurd none
+judged q bytes (Usage word) t none = absurd none
+judged q bytes Memory t none = absurd none
+judged q bytes ReadFault t none = absurd none
+judged q bytes WriteFault t none = absurd none
+
+-- an accepted log is not rejected
+not_both : (q : ℕ) (bytes t u : List ℕ) → AcceptsLog q bytes t → RejectsLog q bytes u → ⊥
+not_both q bytes t u p r =
+    let same : r.field ≡ p.field = same_field r.field p.field (r.over ∙ sym p.over) in
+    accepted_is_not_rejected p.field bytes p.log r.line r.why p.accepted (subst (λ (f : Gf). IsRejection f bytes r.line r.why) same r.rejected)
+
+one_judged : (q : ℕ) (bytes : List ℕ) (e f : Exit) (t u : List ℕ) → Judged q bytes e t → Judged q bytes f u → (e ≡ f) × (t ≡ u)
+one_judged q bytes e f t u (inl (done, p)) (inl (other, r)) = (done ∙ sym other, p.text_is ∙ sym r.text_is)
+one_judged q bytes e f t u (inl (done, p)) (inr (other, r)) = absurd (not_both q bytes t u p r)
+one_judged q bytes e f t u (inr (done, p)) (inl (other, r)) = absurd (not_both q bytes u t r p)
+one_judged q bytes e f t u (inr (done, p)) (inr (other, r)) =
+    let same : r.field ≡ p.field = same_field r.field p.field (r.over ∙ sym p.over) in
+    let once = rejected_once p.field bytes p.line r.line p.why r.why p.rejected (subst (λ (x : Gf). IsRejection x bytes r.line r.why) same r.rejected) in
+    (done ∙ sym other, p.text_is ∙ ap (λ (l : ℕ). rejected_text l p.why) once.0 ∙ ap (rejected_text r.line) once.1 ∙ sym r.text_is)
+
+-- one exit and one text answer a command
+one_answered : (c : Command) (bytes : List ℕ) (e f : Exit) (t u : List ℕ) → Answers c bytes e t → Answers c bytes f u → (e ≡ f) × (t ≡ u)
+one_answered (Solve q workers nodes split orbits) bytes e f t u p r = one_ended bytes e f t u (ended bytes e t p.2) (ended bytes f u r.2)
+one_answered (Check q) bytes e f t u p r = one_judged q bytes e f t u (judged q bytes e t p) (judged q bytes f u r)
+
+-- one exit and one text are allowed for a command and the bytes
+pub one_allowed : (c : Command) (bytes : List ℕ) (e f : Exit) (t u : List ℕ) → Allows c bytes e t → Allows c bytes f u → (e ≡ f) × (t ≡ u)
+one_allowed c bytes e f t u (inl p) (inl q) = (p.1 ∙ sym q.1, p.2 ∙ sym q.2)
+one_allowed c bytes e f t u (inl p) (inr q) = let long = p.0 in let short = q.0 in absurd (omega (arith, long, short))
+one_allowed c bytes e f t u (inr p) (inl q) = let long = q.0 in let short = p.0 in absurd (omega (arith, long, short))
+one_allowed c bytes e f t u (inr p) (inr q) = one_answered c bytes e f t u p.1 q.1
 
 -- fronts of one length are equal
 same_front : (old b c r s : List ℕ) → old ≡ b ++ r → old ≡ c ++ s → length b ≡ length c → (b ≡ c) × (r ≡ s)
@@ -188,10 +176,10 @@ same_front old b c r s p q same_size =
     (fronts, append_cancel_left b r s (sym p ∙ q ∙ ap (λ (w : List ℕ). w ++ s) (sym fronts)))
 
 -- one front is taken from known bytes
-one_taken : (old : List ℕ) (new rest : Option (List ℕ)) (b c : List ℕ) → Takes (Some old) new b → Takes (Some old) rest c → (b ≡ c) × (new ≡ rest)
-one_taken old None rest b c p q = absurd p.taken
-one_taken old (Some r) None b c p q = absurd q.taken
-one_taken old (Some r) (Some s) b c p q =
+one_taken : (limit : ℕ) (old : List ℕ) (new rest : Option (List ℕ)) (b c : List ℕ) → Takes limit (Some old) new b → Takes limit (Some old) rest c → (b ≡ c) × (new ≡ rest)
+one_taken limit old None rest b c p q = absurd p.taken
+one_taken limit old (Some r) None b c p q = absurd q.taken
+one_taken limit old (Some r) (Some s) b c p q =
     let both = same_front old b c r s p.taken q.taken same_size in (both.0, ap Some both.1)
   where
     whole : length old ≡ length b + length r
@@ -202,15 +190,15 @@ one_taken old (Some r) (Some s) b c p q =
 
     same_size : length b ≡ length c
     same_size = ⊎_elim
-        (λ (long : FILE_BYTES < length b). ⊎_elim
-        (λ (long_too : FILE_BYTES < length c). let most = p.limit in let most_too = q.limit in omega arith)
-        (λ (short_too : length c ≤ FILE_BYTES). let none : length s ≡ 0 = ap length (q.ended short_too) in omega (arith, whole, whole_too))
-        (cases_lt FILE_BYTES (length c)))
-        (λ (short : length b ≤ FILE_BYTES). let none : length r ≡ 0 = ap length (p.ended short) in ⊎_elim
-        (λ (long_too : FILE_BYTES < length c). omega (arith, whole, whole_too))
-        (λ (short_too : length c ≤ FILE_BYTES). let none_too : length s ≡ 0 = ap length (q.ended short_too) in omega (arith, whole, whole_too))
-        (cases_lt FILE_BYTES (length c)))
-        (cases_lt FILE_BYTES (length b))
+        (λ (long : limit < length b). ⊎_elim
+        (λ (long_too : limit < length c). let most = p.most in let most_too = q.most in omega arith)
+        (λ (short_too : length c ≤ limit). let none : length s ≡ 0 = ap length (q.ended short_too) in omega (arith, whole, whole_too))
+        (cases_lt limit (length c)))
+        (λ (short : length b ≤ limit). let none : length r ≡ 0 = ap length (p.ended short) in ⊎_elim
+        (λ (long_too : limit < length c). omega (arith, whole, whole_too))
+        (λ (short_too : length c ≤ limit). let none_too : length s ≡ 0 = ap length (q.ended short_too) in omega (arith, whole, whole_too))
+        (cases_lt limit (length c)))
+        (cases_lt limit (length b))
 
 -- known bytes that stay
 kept : (old : List ℕ) (new rest : Option (List ℕ)) → Keeps (Some old) new → Keeps (Some old) rest → new ≡ rest
@@ -218,19 +206,17 @@ kept old None rest p q = absurd p
 kept old (Some r) None p q = absurd q
 kept old (Some r) (Some s) p q = ap Some (p ∙ sym q)
 
--- what is due of words that offend at a place, or nowhere
-abbrev Due : Option ℕ → Option (List ℕ) → Option (List ℕ) → Exit → List ℕ → Type 0
-Due offence old new exit text = MatchOption offence
-    ((bytes : List ℕ) × Takes old new bytes × Allows bytes exit text)
-    (λ word. Keeps old new × (exit ≡ Usage word) × (text ≡ usage_text word))
-
-one_of : (offence : Option ℕ) (old : List ℕ) (new rest : Option (List ℕ)) (e f : Exit) (t u : List ℕ) → Due offence (Some old) new e t → Due offence (Some old) rest f u → (e ≡ f) × (t ≡ u) × (new ≡ rest)
-one_of None old new rest e f t u (b, took, allows) (c, took_too, allows_too) =
-    let same = one_taken old new rest b c took took_too in
-    let ends = one_allowed b e f t u allows (subst (λ (w : List ℕ). Allows w f u) (sym same.0) allows_too) in
-    (ends.0, ends.1, same.1)
-one_of (Some word) old new rest e f t u p q = (p.1 ∙ sym q.1, p.2 ∙ sym q.2, kept old new rest p.0 q.0)
-
 -- one end is due
 pub one_end : OneEndIsDue
-one_end words old new rest e f t u p q = one_of (first_offence words) old new rest e f t u p q
+one_end words old new rest e f t u (inl p) (inl q) =
+    let command : q.command ≡ p.command = one_command words q.command p.command q.says p.says in
+    let takes : Takes (limit_of p.command) (Some old) rest q.bytes = subst (λ (c : Command). Takes (limit_of c) (Some old) rest q.bytes) command q.takes in
+    let same = one_taken (limit_of p.command) old new rest p.bytes q.bytes p.takes takes in
+    let allows : Allows p.command p.bytes f u = subst (λ (w : List ℕ). Allows p.command w f u) (sym same.0) (subst (λ (c : Command). Allows c q.bytes f u) command q.allows) in
+    let ends = one_allowed p.command p.bytes e f t u p.allows allows in
+    (ends.0, ends.1, same.1)
+one_end words old new rest e f t u (inl p) (inr q) = absurd (no_offence words p.command q.word p.says q.offends)
+one_end words old new rest e f t u (inr p) (inl q) = absurd (no_offence words q.command p.word q.says p.offends)
+one_end words old new rest e f t u (inr p) (inr q) =
+    let word = one_offence words p.word q.word p.offends q.offends in
+    (p.exit_is ∙ ap Usage word ∙ sym q.exit_is, p.text_is ∙ ap usage_text word ∙ sym q.text_is, kept old new rest p.keeps q.keeps)

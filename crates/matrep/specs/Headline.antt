@@ -1,29 +1,43 @@
 -- What a run does to its source and its sink.
-use Rattle.std.specs.Prelude.{◌≡◌, ℕ, ◌+◌, ◌≤◌, List, length, Option, MatchOption}
+use Rattle.std.specs.Prelude.{◌≡◌, ◌⊎◌, ℕ, ◌+◌, ◌≤◌, List, length, Option}
 use Rattle.std.specs.Io.KnownBytes.{Consumes, IsAtEnd, Appends, Keeps}
 use Rattle.mr_io.specs.Writing.{AppendsProperPrefix}
-use Rattle.matrep.specs.Words.{first_offence}
+use Rattle.matrep.specs.Words.{Says, IsFirstOffence}
 use Rattle.matrep.specs.Texts.{usage_text}
-use Rattle.matrep.specs.Result.{Allows}
-use Rattle.matrep.specs.declared.TheConstants.{FILE_BYTES}
+use Rattle.matrep.specs.Result.{limit_of, Allows}
+use Rattle.matrep.specs.declared.words.Command.{Command}
 use Rattle.matrep.specs.declared.outcome.Exit.{Exit}
 use Rattle.matrep.specs.declared.outcome.Exit.TheVariants.{Usage, Memory, ReadFault, WriteFault}
 
--- These bytes were taken: all that was left, or one more than a file may have.
-pub record Takes (old new : Option (List ℕ)) (bytes : List ℕ) : Type 0 where
+-- These bytes were taken: all that was left, or one more than the limit.
+pub record Takes (limit : ℕ) (old new : Option (List ℕ)) (bytes : List ℕ) : Type 0 where
   pub taken : Consumes old new bytes
-  pub limit : length bytes ≤ FILE_BYTES + 1
-  pub ended : length bytes ≤ FILE_BYTES → IsAtEnd new
+  pub most : length bytes ≤ limit + 1
+  pub ended : length bytes ≤ limit → IsAtEnd new
 
--- Some bytes were taken from the front, at most one more than a file may have.
-abbrev pub TakesPart : Option (List ℕ) → Option (List ℕ) → Type 0
-TakesPart old new = (bytes : List ℕ) × Consumes old new bytes × (length bytes ≤ FILE_BYTES + 1)
+-- Some bytes were taken from the front, at most one more than the limit.
+abbrev pub TakesPart : ℕ → Option (List ℕ) → Option (List ℕ) → Type 0
+TakesPart limit old new = (bytes : List ℕ) × Consumes old new bytes × (length bytes ≤ limit + 1)
 
--- The exit and the text that are due. Where the words offend nothing is taken from the source.
+-- the words say a command, and the exit and the text are what it allows for the bytes that were taken
+pub record IsAnswered (words : List (List ℕ)) (old new : Option (List ℕ)) (exit : Exit) (text : List ℕ) : Type 0 where
+  pub command : Command
+  pub says : Says words command
+  pub bytes : List ℕ
+  pub takes : Takes (limit_of command) old new bytes
+  pub allows : Allows command bytes exit text
+
+-- a word offends, nothing is taken, and the exit and the text name the first place that does
+pub record IsMisused (words : List (List ℕ)) (old new : Option (List ℕ)) (exit : Exit) (text : List ℕ) : Type 0 where
+  pub word : ℕ
+  pub offends : IsFirstOffence words word
+  pub keeps : Keeps old new
+  pub exit_is : exit ≡ Usage word
+  pub text_is : text ≡ usage_text word
+
+-- the exit and the text that are due
 abbrev pub IsDue : List (List ℕ) → Option (List ℕ) → Option (List ℕ) → Exit → List ℕ → Type 0
-IsDue words old new exit text = MatchOption (first_offence words)
-    ((bytes : List ℕ) × Takes old new bytes × Allows bytes exit text)
-    (λ word. Keeps old new × (exit ≡ Usage word) × (text ≡ usage_text word))
+IsDue words old new exit text = IsAnswered words old new exit text ⊎ IsMisused words old new exit text
 
 -- the text that is due was appended
 abbrev pub Writes : List (List ℕ) → Option (List ℕ) → Option (List ℕ) → Option (List ℕ) → Option (List ℕ) → Exit → Type 0

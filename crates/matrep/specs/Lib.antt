@@ -1,7 +1,5 @@
 pub mod Words
 pub mod Texts
-pub mod Binary
-pub mod Filling
 pub mod Result
 pub mod Refusals
 pub mod Headline

@@ -1,14 +1,14 @@
 -- The texts that a run writes.
 use Rattle.std.specs.Prelude.{ℕ, List, [], ◌∷◌, ◌++◌, length, map, flat_map, codes, decimal}
 use Rattle.mr_field.specs.Gf.{order}
-use Rattle.mr_set.specs.Matroid.{Presentation}
 use Rattle.mr_linear.specs.Matrix.{Grid, height}
 use Rattle.mr_text.specs.Text.{numbers_text, set_text, text_of_lines}
-use Rattle.mr_file.specs.File.{file_lines}
 use Rattle.mr_file.specs.declared.fault.Measure.{Measure}
 use Rattle.mr_file.specs.declared.fault.Measure.TheVariants.{Elements, Rank, Sets, Nonbases}
 use Rattle.matrep.specs.declared.outcome.Fault.{Fault}
-use Rattle.matrep.specs.declared.outcome.Fault.TheVariants.{TooLong, Grammar, Size, NoBasis, Exchange}
+use Rattle.matrep.specs.declared.outcome.Fault.TheVariants as fault
+use Rattle.mr_log.specs.declared.fault.Why.{Why}
+use Rattle.mr_log.specs.declared.fault.Why.TheVariants.{Grammar, Size, Basis, Exchange, Step, End}
 
 -- the line for an offending word
 abbrev pub usage_text : ℕ → List ℕ
@@ -23,11 +23,11 @@ measure_word Nonbases = codes "nonbases"
 
 -- what is said of a refusal
 abbrev pub refusal_words : Fault → List ℕ
-refusal_words TooLong = codes "too long"
-refusal_words (Grammar line) = codes "grammar line " ++ decimal line
-refusal_words (Size line what) = codes "size line " ++ decimal line ++ codes " " ++ measure_word what
-refusal_words NoBasis = codes "no basis"
-refusal_words (Exchange b1 b2 x) = codes "exchange b1 " ++ set_text b1 ++ codes " b2 " ++ set_text b2 ++ codes " x " ++ decimal x
+refusal_words fault.TooLong = codes "too long"
+refusal_words (fault.Grammar line) = codes "grammar line " ++ decimal line
+refusal_words (fault.Size line what) = codes "size line " ++ decimal line ++ codes " " ++ measure_word what
+refusal_words fault.NoBasis = codes "no basis"
+refusal_words (fault.Exchange b1 b2 x) = codes "exchange b1 " ++ set_text b1 ++ codes " b2 " ++ set_text b2 ++ codes " x " ++ decimal x
 
 -- the line for a refusal
 abbrev pub refusal_text : Fault → List ℕ
@@ -41,6 +41,19 @@ matrix_lines a = (codes "matrix " ++ numbers_text (order a.field ∷ height a �
 abbrev pub answer_text : ℕ → List Grid → List ℕ
 answer_text q answer = text_of_lines ((codes "representations " ++ decimal (length answer) ++ codes " field " ++ decimal q) ∷ flat_map matrix_lines answer)
 
--- the refutation log without steps that ends with the set x
-abbrev pub log_text : ℕ → Presentation → List ℕ → List ℕ
-log_text q m x = text_of_lines (codes "refutation 1" ∷ (codes "field " ++ decimal q) ∷ (file_lines m ++ codes "steps 0" ∷ (codes "end t " ++ set_text x) ∷ []))
+-- the line for an accepted log
+abbrev pub accepted_text : List ℕ
+accepted_text = text_of_lines (codes "accepted" ∷ [])
+
+-- the word for what is wrong with a line of a log
+abbrev pub why_word : Why → List ℕ
+why_word Grammar = codes "grammar"
+why_word Size = codes "size"
+why_word Basis = codes "basis"
+why_word Exchange = codes "exchange"
+why_word Step = codes "step"
+why_word End = codes "end"
+
+-- the line for a rejected log
+abbrev pub rejected_text : ℕ → Why → List ℕ
+rejected_text line why = text_of_lines ((codes "rejected line " ++ decimal line ++ codes " " ++ why_word why) ∷ [])

@@ -2,8 +2,8 @@
 #![tactic(auto)]
 
 mod answer;
-mod binary;
 mod block;
+mod check;
 mod laws;
 mod outcome;
 mod refusal;
@@ -21,6 +21,9 @@ use std::process::ExitCode;
 
 /// The most bytes of a matroid file.
 pub const FILE_BYTES: usize = 1048576;
+
+/// The most bytes of a log.
+pub const LOG_BYTES: usize = 268435456;
 
 // Longer than any word of a command.
 const WORD_BYTES: usize = 1024;

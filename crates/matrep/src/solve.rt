@@ -28,7 +28,7 @@ pub fn solve_one(
         unreachable!();
     };
     match read_matroid(alloc, bytes) {
-        Ok(m) => answer(alloc, &m, field),
+        Ok(m) => answer(alloc, m, field),
         Err(fault) => match fault_of(fault) {
             Some(fault) => refused(alloc, fault),
             None => Err(AllocError),

@@ -1,3 +1,4 @@
+use crate::check::check_bytes;
 use crate::run::run;
 use crate::solve::solve_one;
 use mr_io::{MemSink, MemSource, Silent, Source, SureSource};
@@ -140,13 +141,20 @@ fn one_byte_more_than_the_limit_is_too_long(rt: HostRuntime) -> Result<(), Fail>
 #[test]
 fn other_words_offend_at_their_place(rt: HostRuntime) -> Result<(), Fail> {
     let alloc = rt.alloc();
-    let cases: [(&[&str], &[u8]); 6] = [
+    let cases: [(&[&str], &[u8]); 13] = [
         (&[], b"usage word 0\n"),
         (&["--help"], b"usage word 0\n"),
+        (&["dual"], b"usage word 0\n"),
         (&["solve"], b"usage word 1\n"),
         (&["solve", "field=3"], b"usage word 1\n"),
         (&["solve", "nodes=5"], b"usage word 1\n"),
         (&["solve", "field=2", "field=2"], b"usage word 2\n"),
+        (&["check"], b"usage word 1\n"),
+        (&["check", "field=6"], b"usage word 1\n"),
+        (&["check", "field=03"], b"usage word 1\n"),
+        (&["check", "field"], b"usage word 1\n"),
+        (&["check", "field=3", "field=4"], b"usage word 2\n"),
+        (&["check", "field=3", ""], b"usage word 2\n"),
     ];
     for (words, text) in cases {
         let mut source = SureSource::new(alloc, FANO)?;
@@ -176,5 +184,101 @@ fn one_worker_gives_the_text_of_a_run(rt: HostRuntime) -> Result<(), Fail> {
     let outcome = solve_one(rt.alloc(), FANO, 2, 20000, 0, false)?;
     assert_eq!(rt; outcome.exit.status(), 0);
     assert_eq!(rt; outcome.text.as_bytes(), FANO_DONE);
+    Ok(())
+}
+
+// A refutation of the Fano plane over three elements.
+const FANO_LOG: &[u8] =
+    b"refutation 1\nfield 3\nmatroid 1\nelements 7\nrank 3\nnonbases 7\n0 1 3\n0 2 4\n0 5 6\n1 2 5\n1 4 6\n2 3 6\n3 4 5\nend\nsteps 3\nat 1 if 0:1 2:1 by t 3 4 5 t 0 5 6\nat 2 if 0:1 by s 0 t 1 4 6\nat 0 if - by s 1 t 2 3 6\nend s 2\n";
+
+// The same, where a step cites a later one, where one cites itself, and with another end.
+const LATER_LOG: &[u8] =
+    b"refutation 1\nfield 3\nmatroid 1\nelements 7\nrank 3\nnonbases 7\n0 1 3\n0 2 4\n0 5 6\n1 2 5\n1 4 6\n2 3 6\n3 4 5\nend\nsteps 3\nat 1 if 0:1 2:1 by t 3 4 5 t 0 5 6\nat 2 if 0:1 by s 2 t 1 4 6\nat 0 if - by s 1 t 2 3 6\nend s 2\n";
+
+const OWN_LOG: &[u8] =
+    b"refutation 1\nfield 3\nmatroid 1\nelements 7\nrank 3\nnonbases 7\n0 1 3\n0 2 4\n0 5 6\n1 2 5\n1 4 6\n2 3 6\n3 4 5\nend\nsteps 3\nat 1 if 0:1 2:1 by t 3 4 5 t 0 5 6\nat 2 if 0:1 by s 1 t 1 4 6\nat 0 if - by s 1 t 2 3 6\nend s 2\n";
+
+const OPEN_LOG: &[u8] =
+    b"refutation 1\nfield 3\nmatroid 1\nelements 7\nrank 3\nnonbases 7\n0 1 3\n0 2 4\n0 5 6\n1 2 5\n1 4 6\n2 3 6\n3 4 5\nend\nsteps 3\nat 1 if 0:1 2:1 by t 3 4 5 t 0 5 6\nat 2 if 0:1 by s 0 t 1 4 6\nat 0 if - by s 1 t 2 3 6\nend s 0\n";
+
+#[test]
+fn a_log_is_accepted_or_rejected_at_its_first_fault(rt: HostRuntime) -> Result<(), Fail> {
+    let alloc = rt.alloc();
+    let cut = FANO_LOG.len() - 95;
+    let cases: [(&[u8], &str, u8, &[u8]); 8] = [
+        (FANO_LOG, "field=3", 0, b"accepted\n"),
+        (FANO_LOG, "field=5", 1, b"rejected line 2 grammar\n"),
+        (LATER_LOG, "field=3", 1, b"rejected line 17 step\n"),
+        (OWN_LOG, "field=3", 1, b"rejected line 17 step\n"),
+        (OPEN_LOG, "field=3", 1, b"rejected line 19 end\n"),
+        (
+            &FANO_LOG[..cut],
+            "field=3",
+            1,
+            b"rejected line 16 grammar\n",
+        ),
+        (U24_LOG, "field=2", 0, b"accepted\n"),
+        (FANO, "field=2", 1, b"rejected line 1 grammar\n"),
+    ];
+    for (input, field, status, text) in cases {
+        let mut source = SureSource::new(alloc, input)?;
+        let mut sink = MemSink::new(alloc, 100, 4096, [].as_slice())?;
+        let words = ["check", field];
+        assert_eq!(rt;
+            status_of(&rt, alloc, &words, &mut source, &mut sink)?,
+            status
+        );
+        assert_eq!(rt; sink.held(), text);
+    }
+    Ok(())
+}
+
+#[test]
+fn what_is_solved_to_nothing_is_accepted_by_the_checker(rt: HostRuntime) -> Result<(), Fail> {
+    let alloc = rt.alloc();
+    let mut log = MemSink::new(alloc, 7, 4096, [].as_slice())?;
+    assert_eq!(rt; solve(&rt, alloc, U24, &mut log)?, 1);
+    let mut source = MemSource::new(alloc, log.held(), 5, [].as_slice())?;
+    let mut sink = MemSink::new(alloc, 100, 4096, [].as_slice())?;
+    let words = ["check", "field=2"];
+    assert_eq!(rt; status_of(&rt, alloc, &words, &mut source, &mut sink)?, 0);
+    assert_eq!(rt; sink.held(), b"accepted\n".as_slice());
+    let outcome = check_bytes(alloc, U24_LOG, 2)?;
+    assert_eq!(rt; outcome.text.as_bytes(), b"accepted\n".as_slice());
+    Ok(())
+}
+
+#[test]
+fn each_kind_of_fault_of_a_log_has_its_word(rt: HostRuntime) -> Result<(), Fail> {
+    let alloc = rt.alloc();
+    let cases: [(&[u8], &str, &[u8]); 4] = [
+        (
+            b"refutation 1\nfield 2\nmatroid 1\nelements 2\nrank 1\nnonbases 2\n0\n1\nend\nsteps 0\nend t 0\n",
+            "field=2",
+            b"rejected line 9 basis\n",
+        ),
+        (
+            b"refutation 1\nfield 7\nmatroid 1\nelements 4\nrank 2\nnonbases 2\n0 1\n1 2\nend\nsteps 0\nend t 0 2\n",
+            "field=7",
+            b"rejected line 9 exchange\n",
+        ),
+        (
+            b"refutation 1\nfield 9\nmatroid 1\nelements 4\nrank 2\nnonbases 2\n0 1\n1 2\nend\nsteps 1000001\n",
+            "field=9",
+            b"rejected line 10 size\n",
+        ),
+        (
+            b"refutation 1\nfield 4\nmatroid 1\nelements 7\nrank 3\nnonbases 6\n0 1 3\n0 2 4\n0 5 6\n1 2 5\n1 4 6\n2 3 6\nend\nsteps 3\nat 1 if 0:1 2:1 by t 3 4 5 t 0 5 6 t 0 5 6\nat 2 if 0:1 by s 0 t 1 4 6 t 1 4 6\nat 0 if - by s 1 t 2 3 6 t 2 3 6\nend s 2\n",
+            "field=4",
+            b"accepted\n",
+        ),
+    ];
+    for (input, field, text) in cases {
+        let mut source = SureSource::new(alloc, input)?;
+        let mut sink = MemSink::new(alloc, 100, 4096, [].as_slice())?;
+        let words = ["check", field];
+        let _status = status_of(&rt, alloc, &words, &mut source, &mut sink)?;
+        assert_eq!(rt; sink.held(), text);
+    }
     Ok(())
 }

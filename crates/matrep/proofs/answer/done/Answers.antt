@@ -2,7 +2,7 @@
 use Rattle.std.proofs.Common.{◌∙◌, ap, ◌++◌, ◌∷◌, [], List, ℕ, codes}
 use Rattle.mr_text.specs.Text.{text_of_lines}
 use Rattle.matrep.specs.Texts.{matrix_lines}
-use Rattle.matrep.proofs.Logs.{answer_pieces}
+use Rattle.matrep.proofs.Printed.{answer_pieces}
 use Rattle.matrep.proofs.answer.done.Goals as goal
 
 pub returns-clause-text : goal.returns-clause-text

@@ -1,3 +1,4 @@
+-- one end is due
 use Rattle.matrep.proofs.OneEnd.{one_end}
 use Rattle.matrep.proofs.laws.one_end_is_due.Goals as goal
 

@@ -1,0 +1,72 @@
+ghost use Rattle.std.specs.Prelude.{◌≡◌, ◌++◌, ◌≤◌, decimal, length, IfOk, OnOk};
+ghost use Rattle.mr_field.specs.Order.{IsOrder};
+ghost use Rattle.matrep.specs.Texts.{accepted_text, rejected_text, why_word};
+ghost use Rattle.matrep.specs.Result.{AllowsCheck};
+
+use crate::LOG_BYTES;
+use crate::outcome::{Exit, Outcome};
+use mr_check::{CheckFault, check};
+use mr_field::Field;
+use mr_log::Why;
+use mr_text::Text;
+use std::alloc::{AllocError, Global};
+
+/// The exit and the text for the bytes of a log over the field with `q` elements.
+pub fn check_bytes(alloc: Global, bytes: &[u8], q: u8) -> Result<Outcome, AllocError>
+    requires field { IsOrder q }
+    requires limit { length bytes.now ≤ LOG_BYTES }
+    ensures { IfOk result (λ o. AllowsCheck q bytes.now o.exit o.text) }
+{
+    let Some(field) = Field::of(u32::from(q)) else {
+        unreachable!();
+    };
+    match check(alloc, bytes, field) {
+        Ok(_) => accepted(alloc),
+        Err(CheckFault::Rejected { line, why }) => rejected(alloc, line, why),
+        Err(CheckFault::Memory) => Err(AllocError),
+    }
+}
+
+// The outcome for an accepted log.
+fn accepted(alloc: Global) -> Result<Outcome, AllocError>
+    ensures exit { IfOk result (λ o. o.exit ≡ Exit.Done) }
+    ensures text { IfOk result (λ o. o.text ≡ accepted_text) }
+{
+    let mut text = Text::new(alloc);
+    text.put(b"accepted\n")?;
+    Ok(Outcome {
+        exit: Exit::Done,
+        text,
+    })
+}
+
+// The outcome for a log with a fault in a line.
+fn rejected(alloc: Global, line: u32, why: Why) -> Result<Outcome, AllocError>
+    ensures exit { IfOk result (λ o. o.exit ≡ Exit.Negative) }
+    ensures text { IfOk result (λ o. o.text ≡ rejected_text line why) }
+{
+    let mut text = Text::new(alloc);
+    text.put(b"rejected line ")?;
+    text.put_number(line)?;
+    text.put(b" ")?;
+    text.put(word_of(why))?;
+    text.put(b"\n")?;
+    Ok(Outcome {
+        exit: Exit::Negative,
+        text,
+    })
+}
+
+// The word for what is wrong with a line.
+fn word_of(why: Why) -> &'static [u8]
+    ensures { result.now ≡ why_word why }
+{
+    match why {
+        Why::Grammar => b"grammar",
+        Why::Size => b"size",
+        Why::Basis => b"basis",
+        Why::Exchange => b"exchange",
+        Why::Step => b"step",
+        Why::End => b"end",
+    }
+}

@@ -1,0 +1,14 @@
+pub mod Cubes
+pub mod State
+pub mod Rank
+pub mod Events
+pub mod Sound
+pub mod Facts
+pub mod Board
+pub mod Acting
+pub mod Closed
+pub mod Plain
+pub mod Trial
+pub mod Laws
+pub mod Held
+pub mod Deciding

@@ -1,0 +1,133 @@
+ghost use Rattle.std.specs.Prelude.{◌≡◌, [], ◌∷◌, ◌++◌, ◌<◌, length, slice_set, IfOk, OnOk, OnErr, replicate, option_copied};
+ghost use Rattle.mr_nogood.specs.Follows.{in_slots};
+
+use mr_assign::AssignList;
+use mr_nogood::{Cite, Row};
+use std::alloc::{AllocError, Global};
+use std::marker::Model;
+
+/// What is found of a cube: its completions, in order, or why it has none.
+#[derive(Drop)]
+pub enum CubeAnswer {
+    Found(AssignList),
+    Refuted(Cite),
+}
+
+/// A list of answers.
+#[derive(Drop)]
+pub struct AnswerList {
+    items: Vec<CubeAnswer>,
+}
+
+impl Model for AnswerList {
+    ghost use Rattle.std.specs.Prelude.{List};
+    ghost use Rattle.mr_exchange.specs.declared.answer.CubeAnswer.{CubeAnswer};
+
+    ghost Value = { List CubeAnswer };
+
+    ghost view = { λ a. a.items.items };
+}
+
+impl AnswerList {
+    pub fn new(alloc: Global) -> AnswerList
+        ensures { result ≡ [] }
+    {
+        AnswerList {
+            items: Vec::new(alloc),
+        }
+    }
+
+    /// An answer that is refused is given up.
+    pub fn push(&mut self, item: CubeAnswer) -> Result<(), AllocError>
+        ensures ok { OnOk result (self.new ≡ self.old ++ item ∷ []) }
+        ensures err { OnErr result (self.new ≡ self.old) }
+    {
+        self.items.reserve(1)?;
+        self.items.push_reserved(item);
+        Ok(())
+    }
+
+    pub fn as_slice(&self) -> &[CubeAnswer]
+        ensures { result.now ≡ self.now }
+    {
+        &self.items
+    }
+}
+
+/// A list that has at each place a row or none.
+#[derive(Drop)]
+pub struct SlotList {
+    items: Vec<Option<Row>>,
+}
+
+impl Model for SlotList {
+    ghost use Rattle.std.specs.Prelude.{List, Option};
+    ghost use Rattle.mr_nogood.specs.declared.row.Row.{Row};
+
+    ghost Value = { List (Option Row) };
+
+    ghost view = { λ a. a.items.items };
+}
+
+impl SlotList {
+    pub fn new(alloc: Global) -> SlotList
+        ensures { result ≡ [] }
+    {
+        SlotList {
+            items: Vec::new(alloc),
+        }
+    }
+
+    // An empty list with room for n places.
+    fn with_room(alloc: Global, n: u32) -> Result<SlotList, AllocError>
+        ensures { IfOk result (λ list. list ≡ []) }
+    {
+        match Vec::with_capacity(alloc, n as usize) {
+            Ok(items) => Ok(SlotList { items }),
+            Err(e) => Err(e),
+        }
+    }
+
+    // A list of n slots without rows.
+    pub(crate) fn of_slots(alloc: Global, n: u32) -> Result<SlotList, AllocError>
+        ensures { IfOk result (λ list. list ≡ replicate n None) }
+    {
+        let mut list = SlotList::with_room(alloc, n)?;
+        for _i in 0..n {
+            list.push(None)?;
+        }
+        Ok(list)
+    }
+
+    // The row of a slot, if there is one.
+    pub(crate) fn row(&self, slot: u32) -> Option<&Row>
+        ensures { option_copied result ≡ in_slots self.now slot }
+    {
+        match self.items.get(slot as usize) {
+            Some(found) => found.as_ref(),
+            None => None,
+        }
+    }
+
+    // Puts a row in a slot.
+    pub(crate) fn set(&mut self, slot: u32, row: &Row)
+        requires { slot < length self.old }
+        ensures { self.new ≡ slice_set self.old slot (Some row.now) }
+    {
+        self.items[slot as usize] = Some(*row);
+    }
+
+    /// What is refused is given up.
+    pub fn push(&mut self, item: Option<Row>) -> Result<(), AllocError>
+        ensures ok { OnOk result (self.new ≡ self.old ++ item ∷ []) }
+        ensures err { OnErr result (self.new ≡ self.old) }
+    {
+        self.items.extend_from_slice(&[item])
+    }
+
+    pub fn as_slice(&self) -> &[Option<Row>]
+        ensures { result.now ≡ self.now }
+    {
+        &self.items
+    }
+}

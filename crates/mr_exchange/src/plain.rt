@@ -1,0 +1,190 @@
+ghost use Rattle.std.specs.Prelude.{◌≡◌, ◌≢◌, ◌↔◌, ◌+◌, ◌*◌, ◌<◌, ◌≤◌, ◌==◌, if◌then◌else◌, [], length, min, IfOk, IfSome, option_copied};
+ghost use Rattle.mr_nogood.specs.Row.{IsRow};
+ghost use Rattle.mr_exchange.specs.declared.TheConstants.{SHORT, LOOKS, NODES};
+ghost use Rattle.mr_exchange.specs.Cubes.{IsProblemOf};
+ghost use Rattle.mr_exchange.specs.State.{head_at};
+ghost use Rattle.mr_exchange.specs.Events.{seen};
+ghost use Rattle.mr_exchange.specs.Board.{Holding, new_holding, BoardFacts, CanOpen, CanPublish, Claimed, Opened, Looked, Published, pairs_of};
+ghost use Rattle.mr_exchange.specs.Closed.{closed_is};
+ghost use Rattle.mr_exchange.specs.Plain.{PlainIs, plain_holding, IsInOrder};
+
+use crate::{Board, Closed, LOOKS, Look, Problem, SHORT, SlotList, Ticket};
+use mr_assign::Assign;
+use mr_frame::Frame;
+use mr_nogood::{Row, pack};
+use std::alloc::{AllocError, Global};
+use std::marker::Model;
+
+/// A board for one pass. Its lists are taken whole at the start.
+#[derive(Drop)]
+pub struct PlainBoard<'f> {
+    frame: &'f Frame,
+    problem: Problem,
+    cubes: Vec<u32>,
+    tickets: Vec<Ticket>,
+    rows: SlotList,
+    looks: u32,
+    last_head: u64,
+    cursor: u32,
+    claim_ends: u32,
+    ticket_ends: u32,
+}
+
+impl<'f> Model for PlainBoard<'f> {
+    ghost use Rattle.std.specs.Prelude.{◌≤◌, vec_capacity};
+    ghost use Rattle.mr_exchange.specs.Plain.{PlainIs, plain_is, IsPlain};
+
+    ghost Value = { PlainIs };
+
+    ghost view = { λ b. plain_is b.frame.now b.problem b.cubes.items b.tickets.items b.rows b.looks b.last_head b.cursor b.claim_ends b.ticket_ends };
+
+    ghost invariant = { λ b. IsPlain (plain_is b.frame.now b.problem b.cubes.items b.tickets.items b.rows b.looks b.last_head b.cursor b.claim_ends b.ticket_ends) × (b.problem.cubes ≤ vec_capacity b.cubes) × (b.problem.nodes ≤ vec_capacity b.tickets) };
+}
+
+impl<'f> PlainBoard<'f> {
+    /// A board whose pass has and knows nothing.
+    pub fn new(
+        alloc: Global,
+        frame: &'f Frame,
+        problem: Problem,
+    ) -> Result<PlainBoard<'f>, AllocError>
+        requires { IsProblemOf frame.now problem }
+        ensures { IfOk result (λ board. plain_holding board ≡ new_holding frame.entry.now problem) }
+    {
+        // The clauses of `basis` say that it is a frame.
+        let _basis = frame.basis();
+        let cubes = Vec::with_capacity(alloc, problem.cubes as usize)?;
+        let tickets = Vec::with_capacity(alloc, problem.nodes as usize)?;
+        let rows = SlotList::of_slots(alloc, problem.nodes)?;
+        Ok(PlainBoard {
+            frame,
+            problem,
+            cubes,
+            tickets,
+            rows,
+            looks: 0,
+            last_head: 0,
+            cursor: 0,
+            claim_ends: 0,
+            ticket_ends: 0,
+        })
+    }
+
+    /// What the board shows. It takes no memory.
+    pub fn close(self) -> Closed
+        ensures { result ≡ closed_is self.entry.frame self.entry.problem (length self.entry.tickets) (length self.entry.cubes) self.entry.rows }
+    {
+        let opened = self.tickets.len() as u32;
+        let claimed = self.claimed();
+        Closed::of_parts(self.frame, self.problem, opened, claimed, self.rows)
+    }
+
+    // How many cubes were claimed.
+    fn claimed(&self) -> u32
+        ensures { result ≡ length self.now.cubes }
+    {
+        // There are no more than this number, which is one of 32 bits.
+        let _cubes = self.problem.cubes;
+        self.cubes.len() as u32
+    }
+}
+
+impl<'f> Board for PlainBoard<'f> {
+    type Mark = ();
+
+    ghost holding = { plain_holding };
+
+    ghost mark = { λ _. tt };
+
+    fn frame(&self) -> &Frame {
+        self.frame
+    }
+
+    fn problem(&self) -> Problem
+        ensures problem { result ≡ (plain_holding self.now).problem }
+        ensures facts { BoardFacts (plain_holding self.now) }
+        ensures order { IsInOrder (plain_holding self.now) }
+    {
+        self.problem
+    }
+
+    fn claim(&mut self) -> Option<u32> {
+        let cube = self.cubes.len() as u32;
+        if cube < self.problem.cubes {
+            self.cubes.push_reserved(cube);
+            Some(cube)
+        } else {
+            self.claim_ends += 1;
+            None
+        }
+    }
+
+    fn open_node(&mut self, node: &Assign) -> Option<u32> {
+        let slot = self.tickets.len() as u32;
+        if slot < self.problem.nodes {
+            self.tickets.push_reserved(Ticket { slot, node: *node });
+            Some(slot)
+        } else {
+            self.ticket_ends += 1;
+            None
+        }
+    }
+
+    fn look(&mut self) -> Look {
+        let slot = self.cursor;
+        let latest = self.tickets.len() as u32 - 1;
+        self.looks = one_more_look(self.looks, self.problem.nodes);
+        self.cursor = next_slot(slot, latest);
+        let found = self.rows.row(slot);
+        self.last_head = head_at(found);
+        seen(slot, found)
+    }
+
+    fn publish(&mut self, slot: u32, row: &Row) {
+        self.rows.set(slot, row);
+    }
+}
+
+// The number of looks after one more, which rests where no more can be due.
+fn one_more_look(looks: u32, nodes: u32) -> u32
+    requires nodes { nodes ≤ NODES }
+    requires looks { looks ≤ LOOKS * nodes }
+    ensures { result ≡ min (looks + 1) (LOOKS * nodes) }
+{
+    (looks + 1).min(LOOKS * nodes)
+}
+
+// The slot to look at after this one.
+fn next_slot(slot: u32, latest: u32) -> u32
+    requires { slot ≤ latest }
+    ensures { result ≡ (if slot == latest then 0 else slot + 1) }
+{
+    if slot == latest { 0 } else { slot + 1 }
+}
+
+// The head of a slot.
+fn head_at(found: Option<&Row>) -> u64
+    ensures head { result ≡ head_at (option_copied found.entry) }
+    ensures row { IfSome (option_copied found.entry) IsRow }
+{
+    match found {
+        Some(row) => pack(row)[0],
+        None => 0,
+    }
+}
+
+// What a look at a slot shows.
+fn seen(slot: u32, found: Option<&Row>) -> Look
+    ensures { result ≡ seen slot (option_copied found.entry) }
+{
+    match found {
+        Some(row) => {
+            if row.clause.count() <= SHORT {
+                Look::Short(slot, *row)
+            } else {
+                Look::Long
+            }
+        }
+        None => Look::Empty,
+    }
+}
