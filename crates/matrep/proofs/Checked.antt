@@ -1,5 +1,5 @@
 -- From the verdict on a log to the exit and the text.
-use Rattle.std.proofs.Common.{◌≡◌, ℕ, List, refl, sym, ap, subst, ◌∙◌}
+use Rattle.std.proofs.Common.{◌≡◌, ℕ, List, refl, subst}
 use Rattle.mr_field.specs.Gf.{Gf, order}
 use Rattle.mr_linear.specs.Representation.{HasNoRepresentation}
 use Rattle.mr_log.specs.declared.log.Log.{Log}

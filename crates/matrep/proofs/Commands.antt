@@ -1,14 +1,12 @@
 -- Words that are a command's, and the first that isn't.
-use Rattle.std.proofs.Common.{◌≡◌, ◌≢◌, ℕ, zero, suc, ◌+◌, ◌*◌, ◌<◌, ◌≤◌, List, [], ◌∷◌, ◌++◌, length, get_or, take, drop, map, ◌-◌, refl, sym, ap, subst, ◌∙◌, inl, inr, ⊎_elim, arith, true, false, String, string_bytes}
+use Rattle.std.proofs.Common.{◌≡◌, ℕ, zero, suc, ◌<◌, ◌≤◌, List, [], ◌∷◌, ◌++◌, length, get_or, take, drop, ◌-◌, refl, sym, ap, subst, ◌∙◌, inl, inr, arith, String, string_bytes}
 use Rattle.std.specs.Prelude.{codes, decimal, Contains}
 use Rattle.std.specs.declared.alloc.Global.{Global}
 use Rattle.std.proofs.lemmas.List.{take_all}
-use Rattle.mr_set.specs.Elements.{is_element}
 use Rattle.mr_text.specs.Text.{Lacks}
 use Rattle.matrep.specs.declared.words.Command.{Command}
 use Rattle.matrep.specs.declared.words.Name.{Name}
-use Rattle.matrep.specs.declared.words.Name.TheVariants as named
-use Rattle.matrep.specs.Words.{texts, TakesField, TakesValue, IsCut, HasKey, IsOperand, AreOperands, HasNeeded, AreWordsOf, Gives, name_text, command_of, Says, OffendsAfter}
+use Rattle.matrep.specs.Words.{texts, TakesField, IsCut, HasKey, IsOperand, AreOperands, HasNeeded, Gives, name_text, command_of, Says, OffendsAfter}
 
 -- as many texts as words
 pub length-texts : (words : List (String Global)) → length (texts words) ≡ length words

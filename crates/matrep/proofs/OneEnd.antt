@@ -1,11 +1,11 @@
 -- For given words and bytes one exit and one text are due.
-use Rattle.std.proofs.Common.{◌≡◌, ◌≢◌, ◌⊎◌, ℕ, ◌+◌, ◌≤◌, List, [], ◌++◌, length, refl, sym, ap, subst, ◌∙◌, inl, inr, ⊎_elim, arith, take, Option, Some, None}
+use Rattle.std.proofs.Common.{◌≡◌, ◌⊎◌, ℕ, ◌+◌, ◌≤◌, List, [], ◌++◌, length, refl, sym, ap, subst, ◌∙◌, inl, inr, ⊎_elim, arith, take, Option, Some, None}
 use Rattle.std.specs.Prelude.{◌<◌}
 use Rattle.std.specs.Io.KnownBytes.{Keeps}
 use Rattle.std.proofs.lemmas.Bool.{cases_lt}
 use Rattle.std.proofs.lemmas.List.{append_cancel_left, length-append}
 use Rattle.std.proofs.Math.Seq.{take-append_seam}
-use Rattle.mr_field.specs.Gf.{Gf, order}
+use Rattle.mr_field.specs.Gf.{Gf}
 use Rattle.mr_set.specs.Matroid.{Presentation}
 use Rattle.mr_set.proofs.Uniqueness.{same-from_unordered}
 use Rattle.mr_matroid.specs.Exchange.{HasNoBasis, IsFirstFailure}
@@ -23,12 +23,11 @@ use Rattle.mr_frame.specs.Test.{IsFirstFailing}
 use Rattle.mr_frame.proofs.OneFrame.{one_frame}
 use Rattle.mr_class.proofs.LawsOfForms.{same_field}
 use Rattle.mr_log.specs.Log.{log_text}
-use Rattle.mr_check.specs.Accepted.{IsAcceptedLog, IsRejection}
+use Rattle.mr_check.specs.Accepted.{IsRejection}
 use Rattle.mr_check.proofs.Rejections.{accepted_is_not_rejected, rejected_once}
-use Rattle.matrep.specs.Words.{Says, IsFirstOffence}
-use Rattle.matrep.specs.Texts.{usage_text, answer_text, refusal_text, accepted_text, rejected_text}
+use Rattle.matrep.specs.Texts.{usage_text, answer_text, refusal_text, rejected_text}
 use Rattle.matrep.specs.Result.{ListsAnswer, short_log, Refutes, IsAtFault, AllowsFile, AcceptsLog, RejectsLog, AllowsCheck, limit_of, Answers, Allows}
-use Rattle.matrep.specs.Headline.{Takes, IsAnswered, IsMisused, IsDue}
+use Rattle.matrep.specs.Headline.{Takes}
 use Rattle.matrep.specs.Laws.{OneEndIsDue}
 use Rattle.matrep.specs.declared.words.Command.{Command}
 use Rattle.matrep.specs.declared.words.Command.TheVariants.{Solve, Check}

@@ -1,19 +1,16 @@
 -- What is written for a matroid without representations is accepted when it is checked in turn.
-use Rattle.std.proofs.Common.{◌≡◌, ℕ, suc, ◌+◌, ◌*◌, ◌^◌, ◌<◌, ◌≤◌, List, [], ◌∷◌, ◌++◌, length, map, refl, sym, ap, subst, ◌∙◌, inr, arith, codes}
-use Rattle.std.specs.Prelude.{All, decimal}
-use Rattle.std.proofs.lemmas.Fmt.{length-decimal-le}
+use Rattle.std.proofs.Common.{◌≡◌, ℕ, ◌+◌, ◌≤◌, List, [], ◌∷◌, ◌++◌, length, refl, sym, ap, subst, ◌∙◌, inr, arith, codes}
+use Rattle.std.specs.Prelude.{decimal}
 use Rattle.std.proofs.lemmas.List.{length-append}
-use Rattle.std.proofs.lemmas.List.Concat.{flat_map-append, flat_map-cons}
+use Rattle.std.proofs.lemmas.List.Concat.{flat_map-append}
 use Rattle.mr_field.specs.Gf.{gf2}
 use Rattle.mr_set.specs.Subsets.{IsSetOf}
-use Rattle.mr_set.specs.Matroid.{Presentation, IsMatroid}
-use Rattle.mr_text.specs.Text.{numbers_text, set_text, text_of_lines}
+use Rattle.mr_set.specs.Matroid.{Presentation}
+use Rattle.mr_text.specs.Text.{set_text, text_of_lines}
 use Rattle.mr_file.specs.File.{file_lines, file_text}
 use Rattle.mr_file.proofs.Lengths.{line_length, keyed_length, set_length, file_length}
-use Rattle.mr_log.specs.Log.{log_text, log_lines}
-use Rattle.mr_log.specs.Lines.{cite_text}
-use Rattle.matrep.specs.Texts.{accepted_text}
-use Rattle.matrep.specs.Result.{short_log, Refutes, Allows, AllowsFile}
+use Rattle.mr_log.specs.Log.{log_text}
+use Rattle.matrep.specs.Result.{short_log}
 use Rattle.matrep.specs.Laws.{WrittenLogsAreAccepted}
 
 -- two lines, and two parts after them

@@ -1,29 +1,25 @@
 -- Over two elements a frame has one assignment, the empty one: its matrix is the answer, or there is none.
-use Rattle.std.proofs.Common.{◌≡◌, ◌≢◌, ℕ, zero, suc, ◌+◌, ◌<◌, ◌≤◌, List, [], ◌∷◌, length, get_or, refl, sym, ap, subst, ◌∙◌, inl, inr, ⊎_elim, arith}
-use Rattle.std.specs.Prelude.{Contains, replicate, slice_get, Some}
+use Rattle.std.proofs.Common.{◌≡◌, ◌≢◌, ℕ, zero, suc, ◌<◌, List, [], ◌∷◌, length, get_or, refl, sym, ap, subst, ◌∙◌, ⊎_elim, arith}
+use Rattle.std.specs.Prelude.{Contains, slice_get, Some}
 use Rattle.std.specs.List.Sorted.{IsStrictlySortedBy}
-use Rattle.std.proofs.lemmas.Bool.{cases_eq, cases_lt}
+use Rattle.std.proofs.lemmas.Bool.{cases_eq}
 use Rattle.std.proofs.lemmas.List.{ext_get_or, length-replicate, get_or-replicate}
 use Rattle.std.proofs.lemmas.Option.{slice_get_past}
-use Rattle.mr_field.specs.Gf.{Gf, gf2, order}
-use Rattle.mr_field.specs.Order.{IsOrder}
-use Rattle.mr_set.specs.Matroid.{Presentation, IsMatroid}
-use Rattle.mr_matroid.specs.Exchange.{IsWithinLimits}
+use Rattle.mr_field.specs.Gf.{gf2, order}
+use Rattle.mr_set.specs.Matroid.{Presentation}
 use Rattle.mr_linear.specs.Matrix.{Grid, grid_cmp}
-use Rattle.mr_linear.specs.Representation.{Represents, IsMember, IsAnswer, HasNoRepresentation}
-use Rattle.mr_assign.specs.Assign.{IsAssign, IsPartOf, no_values}
+use Rattle.mr_linear.specs.Representation.{IsMember, IsAnswer, HasNoRepresentation}
+use Rattle.mr_assign.specs.Assign.{IsAssign, no_values}
 use Rattle.mr_assign.specs.declared.TheConstants.{POSITIONS}
 use Rattle.mr_nogood.specs.declared.row.Row.{Row}
-use Rattle.mr_frame.specs.Frame.{Framed, IsFrame, IsFrameOf}
+use Rattle.mr_frame.specs.Frame.{Framed, IsFrame}
 use Rattle.mr_frame.specs.Test.{IsAssignmentOf, IsFull, IsFilledBy, SetFails, IsFirstFailing}
-use Rattle.mr_frame.specs.Completion.{IsCompletion}
 use Rattle.mr_frame.proofs.Uniqueness.{two_elements}
 use Rattle.mr_frame.proofs.OneVerdict.{one_filled_matrix}
 use Rattle.mr_class.specs.Forms.{IsForm}
 use Rattle.mr_class.proofs.LawsOfForms.{each_has_one_form, forms_are_members, members_come_from_one_form}
-use Rattle.mr_nogood.specs.declared.row.Cite.TheVariants.{Test}
-use Rattle.mr_log.specs.Log.{log_text, IsLog, IsLogOf}
-use Rattle.mr_check.specs.Accepted.{IsRefutation, IsAcceptedLog}
+use Rattle.mr_log.specs.Log.{log_text, IsLog}
+use Rattle.mr_check.specs.Accepted.{IsAcceptedLog}
 use Rattle.mr_check.proofs.Walk.{get_or-no_values, nothing_is_assigned}
 use Rattle.matrep.specs.Texts.{answer_text}
 use Rattle.matrep.specs.Result.{short_log, Refutes, Solves}

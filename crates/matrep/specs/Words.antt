@@ -1,5 +1,5 @@
 -- Which words are a command, and the first word that offends.
-use Rattle.std.specs.Prelude.{◌≡◌, ◌≢◌, ◌⊎◌, ℕ, ◌+◌, ◌<◌, List, [], ◌∷◌, ◌++◌, length, take, map, Contains, slice_index_or, codes, decimal, Bool, false, String, string_bytes}
+use Rattle.std.specs.Prelude.{◌≡◌, ◌≢◌, ◌⊎◌, ℕ, ◌+◌, ◌<◌, List, [], ◌∷◌, ◌++◌, length, take, map, Contains, slice_index_or, codes, decimal, false, String, string_bytes}
 use Rattle.std.specs.declared.alloc.Global.{Global}
 use Rattle.mr_field.specs.Order.{IsOrder}
 use Rattle.mr_text.specs.Text.{Lacks}

@@ -1,14 +1,19 @@
-ghost use Rattle.std.specs.Prelude.{◌≡◌, ◌↔◌, IsTrue, All};
+ghost use Rattle.std.specs.Prelude.{◌≡◌, ◌↔◌, ◌+◌, ◌<◌, ◌≤◌, [], min, IfSome, IsTrue, All, length};
+ghost use Rattle.std.specs.Bool.{OnTrue};
 ghost use Rattle.std.specs.List.{AllByRecursion};
 ghost use Rattle.std.specs.List.Sorted.{IsStrictlySortedBy};
 ghost use Rattle.mr_set.specs.Subsets.{IsSetOf, IsBefore, list_cmp};
+ghost use Rattle.mr_exchange.specs.declared.TheConstants.{LOOKS, NODES};
+ghost use Rattle.mr_exchange.specs.Cubes.{IsProblemOf};
+ghost use Rattle.mr_exchange.specs.Board.{new_holding};
+ghost use Rattle.mr_exchange.specs.Trial.{KnowsNone, KnowsOne, LookedOn};
 
-use crate::{Event, Look, Problem, ReplayFault, Reply, State, StepFault, cube_at, replay};
-use mr_assign::Assign;
+use crate::{AnswerList, Board, CubeAnswer, LOOKS, Look, PlainBoard, Problem, SlotList};
+use mr_assign::{Assign, AssignList};
 use mr_field::Field;
 use mr_frame::Frame;
 use mr_matroid::Matroid;
-use mr_nogood::{Cite, Row};
+use mr_nogood::{Cite, Row, follows};
 use mr_set::{Set, elements, is_before};
 use std::alloc::Global;
 use std::test::Fail;
@@ -18,15 +23,6 @@ const LINES: [u64; 7] = [
     0b0001011, 0b0010101, 0b1100001, 0b0100110, 0b1010010, 0b1001100, 0b0111000,
 ];
 
-// Whether the set has r elements, all below n.
-fn is_set_of(n: u32, r: u32, x: Set) -> bool
-    ensures { IsTrue result ↔ IsSetOf n r x }
-{
-    // The clauses of `mask` say that the elements stand in order.
-    let _mask = x.mask();
-    x.len() == r && elements(x).as_slice().iter().all(|e| *e < n)
-}
-
 // Whether the set stands before all the others.
 fn is_before_all(x: Set, others: &[Set]) -> bool
     ensures { IsTrue result → AllByRecursion (IsBefore x) others.now }
@@ -35,6 +31,15 @@ fn is_before_all(x: Set, others: &[Set]) -> bool
         None => true,
         Some(parts) => is_before(x, *parts.0) && is_before_all(x, parts.1),
     }
+}
+
+// Whether the set has r elements, all below n.
+fn is_set_of(n: u32, r: u32, x: Set) -> bool
+    ensures { IsTrue result ↔ IsSetOf n r x }
+{
+    // The clauses of `mask` say that the elements stand in order.
+    let _mask = x.mask();
+    x.len() == r && elements(x).as_slice().iter().all(|e| *e < n)
 }
 
 // Whether these are sets of r elements below n, in order.
@@ -71,20 +76,27 @@ fn fano(alloc: Global) -> Result<Frame, Fail> {
     }
 }
 
+// The problem of splitting one position.
+fn split_once(frame: &Frame, nodes: u32) -> Option<Problem>
+    requires { (1 ≤ nodes) × (nodes ≤ NODES) }
+    ensures { IfSome result (IsProblemOf frame.now) }
+{
+    if frame.free() == 0 {
+        return None;
+    }
+    let cubes = u32::from(frame.field().order()).saturating_sub(1);
+    Some(Problem {
+        depth: 1,
+        cubes,
+        nodes,
+    })
+}
+
 // The cite of the set with this mask.
 fn test(mask: u64) -> Cite {
     match Set::of_mask(mask) {
         Some(x) => Cite::Test(x),
         None => Cite::Nothing,
-    }
-}
-
-// The map that gives a value to position 0.
-fn first_is(value: u8) -> Assign {
-    if value == 1 {
-        Assign::empty().with(0, 1)
-    } else {
-        Assign::empty().with(0, 2)
     }
 }
 
@@ -96,130 +108,152 @@ fn row() -> Row {
     Row {
         rank: 0,
         at: 1,
-        clause: first_is(1).with(2, 1),
+        clause: Assign::empty().with(0, 1).with(2, 1),
         cites,
     }
 }
 
-// Two passes: the first publishes a row, and the second looks at it. The last event lacks looks.
-fn events() -> [Event; 9] {
-    [
-        Event::Split,
-        Event::Claim { pass: 0 },
-        Event::Claim { pass: 1 },
-        Event::OpenNode {
-            pass: 0,
-            node: first_is(1),
-        },
-        Event::OpenNode {
-            pass: 1,
-            node: first_is(2),
-        },
-        Event::Publish {
-            pass: 0,
-            slot: 0,
-            row: row(),
-        },
-        Event::LookAt { pass: 1 },
-        Event::LookAt { pass: 1 },
-        Event::OpenNode {
-            pass: 1,
-            node: first_is(2).with(1, 1),
-        },
-    ]
-}
-
-// What the first eight answer.
-fn replies() -> [Reply; 8] {
-    [
-        Reply::Done,
-        Reply::Cube(Some(0)),
-        Reply::Cube(Some(1)),
-        Reply::Ticket(Some(0)),
-        Reply::Ticket(Some(1)),
-        Reply::Done,
-        Reply::Seen(Look::Short(0, row())),
-        Reply::Seen(Look::Empty),
-    ]
-}
-
-// Whether the first eight answer so.
-fn is_played(state: &mut State, frame: &Frame, events: &[Event; 9], replies: &[Reply; 8]) -> bool
-    requires { state.old.frame ≡ frame.now }
-    ensures { state.new.frame ≡ frame.now }
+// Whether the frame has a free position for a node that gives 1 to the first, and the problem splits that one.
+fn splits_first<B: Board>(board: &B) -> bool
+    ensures place { OnTrue result (0 < length (B.holding board.now).frame.places) }
+    ensures depth { OnTrue result ((B.holding board.now).problem.depth ≡ 1) }
 {
-    for k in 0..8 {
-        if state.step(frame, &events[k]) != Ok(replies[k]) {
-            return false;
-        }
+    board.frame().free() > 0 && board.problem().depth == 1
+}
+
+// Whether a new pass claims the cube 0 and draws the ticket 0 for the node that gives 1 to position 0.
+fn opens<B: Board>(board: &mut B) -> bool
+    requires { B.holding board.old ≡ new_holding (B.holding board.old).frame (B.holding board.old).problem }
+    ensures { OnTrue result (KnowsNone (B.holding board.new)) }
+{
+    if !splits_first(board) {
+        return false;
     }
+    match board.claim() {
+        Some(0) => {}
+        _ => return false,
+    }
+    match board.open_node(&Assign::empty().with(0, 1)) {
+        Some(ticket) => ticket == 0,
+        None => false,
+    }
+}
+
+// Whether a look at the slot of its own shows no row.
+fn sees_none<B: Board>(board: &mut B) -> bool
+    requires { KnowsNone (B.holding board.old) }
+    ensures { OnTrue result (KnowsNone (B.holding board.new)) }
+{
+    match board.look() {
+        Look::Empty => true,
+        Look::Long | Look::Short(_, _) => false,
+    }
+}
+
+// Publishes a row that follows from sets that fail.
+fn publishes<B: Board>(board: &mut B, row: &Row) -> bool
+    requires { KnowsNone (B.holding board.old) }
+    ensures { OnTrue result (KnowsOne (B.holding board.new) row.now) }
+{
+    if row.rank != 0 || !follows(board.frame(), row, &[]) {
+        return false;
+    }
+    board.publish(0, row);
     true
 }
 
-#[test]
-fn a_row_goes_from_one_pass_to_another(rt: HostRuntime) -> Result<(), Fail> {
-    let fano = fano(rt.alloc())?;
-    let problem = Problem::of(&fano, 1, 10);
-    assert!(rt;
-        problem
-            == Problem {
-                depth: 1,
-                cubes: 2,
-                nodes: 10
-            }
-    );
-    let mut state = State::new(rt.alloc(), &fano, problem, 2)?;
-    let events = events();
-    let replies = replies();
-    assert!(rt; is_played(&mut state, &fano, &events, &replies));
-    // The ninth is refused and leaves the state: the cursor is where the looks left it.
-    assert!(rt; state.step(&fano, &events[8]) == Err(StepFault::NotAllowed));
-    assert!(rt; state.step(&fano, &events[8]) == Err(StepFault::NotAllowed));
-    assert!(rt; state.step(&fano, &events[6]) == Ok(replies[6]));
-    assert!(rt; state.row(0) == Some(&row()));
-    assert!(rt; state.row(1).is_none());
-    Ok(())
+// Whether a look at the slot of its own shows the row that it knows there.
+fn sees_row<B: Board>(board: &mut B, row: &Row) -> bool
+    requires { KnowsOne (B.holding board.old) row.now }
+    ensures row { KnowsOne (B.holding board.new) row.now }
+    ensures looks { min ((B.holding board.old).looks + 1) LOOKS ≤ (B.holding board.new).looks }
+{
+    // The clauses of `problem` say that the cursor is no further than the latest slot, and that there are no
+    // more tickets than nodes.
+    let _problem = board.problem();
+    match board.look() {
+        Look::Short(slot, found) => slot == 0 && found == *row,
+        Look::Empty | Look::Long => false,
+    }
+}
+
+// Makes the looks that are due for one ticket more.
+fn looks_on<B: Board>(board: &mut B, row: &Row)
+    requires { KnowsOne (B.holding board.old) row.now }
+    ensures { LookedOn (B.holding board.new) row.now }
+{
+    for _k in 0..LOOKS {
+        sees_row(board, row);
+    }
+}
+
+// Whether a second node is opened, where the looks that are due were made and the row's clause isn't in the node.
+fn opens_again<B: Board>(board: &mut B, row: &Row) -> bool
+    requires { LookedOn (B.holding board.old) row.now }
+    ensures { (B.holding board.new).claim_ends ≡ 0 }
+{
+    let node = Assign::empty().with(0, 1);
+    if !splits_first(board) {
+        return false;
+    }
+    if node.contains(&row.clause) {
+        return false;
+    }
+    match board.open_node(&node) {
+        Some(ticket) => ticket == 1,
+        None => false,
+    }
+}
+
+// Whether a new pass opens, looks and publishes as it should.
+fn plays<B: Board>(board: &mut B, row: &Row) -> bool
+    requires { B.holding board.old ≡ new_holding (B.holding board.old).frame (B.holding board.old).problem }
+    ensures { OnTrue result ((B.holding board.new).claim_ends ≡ 0) }
+{
+    if !opens(board) {
+        return false;
+    }
+    if !sees_none(board) {
+        return false;
+    }
+    if !publishes(board, row) {
+        return false;
+    }
+    if !sees_row(board, row) {
+        return false;
+    }
+    looks_on(board, row);
+    opens_again(board, row)
 }
 
 #[test]
-fn a_joined_pass_leaves_all_to_the_first(rt: HostRuntime) -> Result<(), Fail> {
+fn a_plain_board_answers_as_its_pass(rt: HostRuntime) -> Result<(), Fail> {
     let fano = fano(rt.alloc())?;
-    let mut state = State::new(rt.alloc(), &fano, Problem::of(&fano, 1, 10), 2)?;
-    assert!(rt; is_played(&mut state, &fano, &events(), &replies()));
-    assert!(rt; state.step(&fano, &Event::Join { pass: 1 }) == Ok(Reply::Done));
-    assert!(rt; state.step(&fano, &Event::Join { pass: 1 }) == Err(StepFault::NotAllowed));
-    assert!(rt; state.step(&fano, &Event::Split) == Err(StepFault::NotAllowed));
-    assert!(rt; state.step(&fano, &Event::Claim { pass: 0 }) == Ok(Reply::Cube(None)));
-    assert!(rt; state.step(&fano, &Event::Claim { pass: 0 }) == Err(StepFault::NotAllowed));
+    let problem = split_once(&fano, 10).ok_or("a free position")?;
+    let mut board = PlainBoard::new(rt.alloc(), &fano, problem)?;
+    assert!(rt; plays(&mut board, &row()));
+    match board.claim() {
+        Some(cube) => assert_eq!(rt; cube, 1),
+        None => return Err("a second cube".into()),
+    }
+    assert!(rt; board.claim().is_none());
+    let closed = board.close();
+    assert_eq!(rt; closed.opened(), 2);
+    assert_eq!(rt; closed.claimed(), 2);
+    assert!(rt; closed.row(0) == Some(row()));
+    assert!(rt; closed.row(1).is_none());
+    assert!(rt; closed.row(10).is_none());
     Ok(())
 }
 
-#[test]
-fn the_first_refused_event_is_named_by_its_place(rt: HostRuntime) -> Result<(), Fail> {
-    let fano = fano(rt.alloc())?;
-    let problem = Problem::of(&fano, 1, 10);
-    let events = events();
-    match replay(rt.alloc(), &fano, problem, 2, events.as_slice()) {
-        Err(ReplayFault::NotAllowed { place }) => assert_eq!(rt; place, 8),
-        Err(ReplayFault::Memory) | Ok(_) => return Err("an event is refused".into()),
-    }
-    match replay(rt.alloc(), &fano, problem, 2, &events[..8]) {
-        Ok(state) => assert!(rt; state.row(0) == Some(&row())),
-        Err(_) => return Err("the events are allowed".into()),
-    }
-    Ok(())
-}
-
-#[test]
-fn the_cubes_of_one_position_are_its_values(rt: HostRuntime) -> Result<(), Fail> {
-    let fano = fano(rt.alloc())?;
-    let problem = Problem::of(&fano, 1, 10);
-    assert_eq!(rt; problem.cubes, 2);
-    for c in 0..problem.cubes {
-        let cube = cube_at(&fano, problem.depth, c);
-        assert!(rt; cube == first_is(c as u8 + 1));
-    }
-    Ok(())
+// The answers that cube 0 has the map with 1 at position 0 and cube 1 is refuted by slot 3.
+fn answers(alloc: Global) -> Result<AnswerList, Fail> {
+    let mut found = AssignList::new(alloc);
+    found.push(Assign::empty().with(0, 1))?;
+    let mut answers = AnswerList::new(alloc);
+    answers.push(CubeAnswer::Found(found))?;
+    answers.push(CubeAnswer::Refuted(Cite::Slot(3)))?;
+    Ok(answers)
 }
 
 fn moved<T: Send + Sync>(value: T) -> T {
@@ -227,9 +261,22 @@ fn moved<T: Send + Sync>(value: T) -> T {
 }
 
 #[test]
-fn a_state_may_cross_threads(rt: HostRuntime) -> Result<(), Fail> {
-    let fano = fano(rt.alloc())?;
-    let state = moved(State::new(rt.alloc(), &fano, Problem::of(&fano, 1, 10), 2)?);
-    assert!(rt; state.row(0).is_none());
+fn lists_keep_their_order_and_may_cross_threads(rt: HostRuntime) -> Result<(), Fail> {
+    let answers = moved(answers(rt.alloc())?);
+    match answers.as_slice() {
+        [CubeAnswer::Found(found), CubeAnswer::Refuted(cite)] => {
+            assert_eq!(rt; found.as_slice().len(), 1);
+            assert!(rt; *cite == Cite::Slot(3));
+        }
+        _ => return Err("two answers".into()),
+    }
+    let mut slots = SlotList::new(rt.alloc());
+    slots.push(None)?;
+    slots.push(Some(row()))?;
+    let slots = moved(slots);
+    match slots.as_slice() {
+        [None, Some(found)] => assert!(rt; *found == row()),
+        _ => return Err("two slots".into()),
+    }
     Ok(())
 }

@@ -1,10 +1,10 @@
 -- accepted or rejected
-use Rattle.std.proofs.Common.{◌∙◌, refl, sym}
-use Rattle.matrep.specs.Texts.{accepted_text, rejected_text}
+use Rattle.std.proofs.Common.{◌∙◌}
+use Rattle.matrep.specs.Texts.{accepted_text}
 use Rattle.matrep.specs.Result.{AllowsCheck}
-use Rattle.matrep.specs.declared.outcome.Exit.TheVariants.{Done, Negative}
+use Rattle.matrep.specs.declared.outcome.Exit.TheVariants.{Done}
 use Rattle.matrep.proofs.Ending.{outcome_is}
-use Rattle.matrep.proofs.Checked.{accepts, rejects}
+use Rattle.matrep.proofs.Checked.{accepts}
 use Rattle.matrep.proofs.check.check_bytes.Goals as goal
 
 pub returns-in-Ok : goal.returns-in-Ok

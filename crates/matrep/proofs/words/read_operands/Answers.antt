@@ -1,5 +1,5 @@
 -- one operand
-use Rattle.std.proofs.Common.{◌≡◌, ℕ, ◌≤◌, ◌<◌, length, arith, refl}
+use Rattle.std.proofs.Common.{◌≡◌, ◌≤◌, length, arith, refl}
 use Rattle.std.proofs.lemmas.Grind.{common_steps}
 use Rattle.matrep.specs.Words.{texts}
 use Rattle.matrep.proofs.Commands.{length-texts, first_text, none_offends, lone, second_offends}
