@@ -1,80 +1,67 @@
--- What is written for a matroid without representations is accepted when it is checked in turn.
-use Rattle.std.proofs.Common.{◌≡◌, ℕ, ◌+◌, ◌≤◌, List, [], ◌∷◌, ◌++◌, length, refl, sym, ap, subst, ◌∙◌, inr, arith, codes}
-use Rattle.std.specs.Prelude.{decimal}
-use Rattle.std.proofs.lemmas.List.{length-append}
-use Rattle.std.proofs.lemmas.List.Concat.{flat_map-append}
-use Rattle.mr_field.specs.Gf.{gf2}
-use Rattle.mr_set.specs.Subsets.{IsSetOf}
+-- What is written for a matroid without representations is accepted when it is checked in turn, and enough nodes suffice.
+use Rattle.std.proofs.Common.{◌≡◌, ◌⊎◌, ℕ, ◌+◌, ◌≤◌, List, length, refl, sym, ap, subst, ◌∙◌, inl, inr, arith}
+use Rattle.std.specs.Prelude.{min, Bool}
+use Rattle.mr_field.specs.Gf.{Gf, order}
 use Rattle.mr_set.specs.Matroid.{Presentation}
-use Rattle.mr_text.specs.Text.{set_text, text_of_lines}
-use Rattle.mr_file.specs.File.{file_lines, file_text}
-use Rattle.mr_file.proofs.Lengths.{line_length, keyed_length, set_length, file_length}
-use Rattle.mr_log.specs.Log.{log_text}
-use Rattle.matrep.specs.Result.{short_log}
-use Rattle.matrep.specs.Laws.{WrittenLogsAreAccepted}
+use Rattle.mr_frame.specs.Frame.{Framed, IsFrame}
+use Rattle.mr_frame.proofs.OneFrame.{one_frame}
+use Rattle.mr_file.specs.File.{IsFileOf}
+use Rattle.mr_file.proofs.Accepting.{one_file}
+use Rattle.mr_linear.specs.Representation.{HasNoRepresentation}
+use Rattle.mr_search.specs.Nodes.{IsNode, HoldsOfMany, IsNeed}
+use Rattle.mr_search.proofs.Needing.{at_most}
+use Rattle.matrep.specs.Texts.{accepted_text, refusal_text}
+use Rattle.matrep.specs.Result.{IsFileFault, Refuses, Allows}
+use Rattle.matrep.specs.Solving.{HasMoreNodes, Solves}
+use Rattle.matrep.specs.Laws.{WrittenLogsAreAccepted, EnoughNodesSuffice}
+use Rattle.matrep.specs.declared.words.Command.TheVariants.{Solve, Check}
+use Rattle.matrep.specs.declared.outcome.Exit.{Exit}
+use Rattle.matrep.specs.declared.outcome.Exit.TheVariants.{Done, Negative, Refused, Stopped}
+use Rattle.matrep.specs.declared.outcome.Fault.{Fault}
+use Rattle.matrep.specs.declared.outcome.Fault.TheVariants.{TooLong}
+use Rattle.matrep.proofs.Solved.{solved_negative, solved_stopped}
+use Rattle.matrep.proofs.OneAnswer.{same_field}
 
--- two lines, and two parts after them
-parts_length : (a b : List ℕ) (f t : List (List ℕ)) → length (text_of_lines (a ∷ b ∷ (f ++ t))) ≡ length a + 1 + (length b + 1 + (length (text_of_lines f) + length (text_of_lines t)))
-parts_length a b f t =
-    line_length a (b ∷ (f ++ t)) ∙ ap (λ n. length a + 1 + n) (line_length b (f ++ t) ∙ ap (λ n. length b + 1 + n)
-    (ap length (flat_map-append (λ (w : List ℕ). w ++ 10 ∷ []) f t) ∙ length-append (text_of_lines f) (text_of_lines t)))
+-- a refusal isn't the exit of a log
+not_negative : (fault : Fault) → Negative ≡ Refused fault → ⊥
+not_negative fault is = cc
 
--- two lines
-two_length : (a b : List ℕ) → length (text_of_lines (a ∷ b ∷ [])) ≡ length a + 1 + (length b + 1 + 0)
-two_length a b = line_length a (b ∷ []) ∙ ap (λ n. length a + 1 + n) (line_length b [])
-
--- the parts of a log without steps
-small_sum : (n a b f t : ℕ) → n ≡ a + 1 + (b + 1 + (f + t)) → a ≤ 12 → b ≤ 15 → f ≤ 1048576 → t ≤ 300 → n ≤ 268435456
-small_sum n a b f t is p q r s = omega arith
-
--- its last two lines
-small_tail : (n a b : ℕ) → n ≡ a + 1 + (b + 1 + 0) → a ≤ 15 → b ≤ 102 → n ≤ 300
-small_tail n a b is p q = omega arith
-
--- the line of the end
-end_length : (x : List ℕ) → length (set_text x) ≤ 96 → length (codes "end " ++ (codes "t " ++ set_text x)) ≤ 102
-end_length x set =
-    let cite = length-append (codes "end ") (codes "t " ++ set_text x) in
-    let named = length-append (codes "t ") (set_text x) in
-    omega arith
-
--- the log without steps is short
-short_length : (m : Presentation) (x : List ℕ) → length (file_text m) ≤ 1048576 → length (set_text x) ≤ 96 → length (log_text (short_log m x)) ≤ 268435456
-short_length m x file set =
-    small_sum (length (log_text (short_log m x))) (length (codes "refutation 1")) (length (codes "field " ++ decimal 2)) (length (file_text m))
-    (length (text_of_lines ((codes "steps " ++ decimal 0) ∷ (codes "end " ++ (codes "t " ++ set_text x)) ∷ [])))
-    (parts_length (codes "refutation 1") (codes "field " ++ decimal 2) (file_lines m) ((codes "steps " ++ decimal 0) ∷ (codes "end " ++ (codes "t " ++ set_text x)) ∷ []))
-    (omega arith)
-    (let h = keyed_length (codes "field ") 2 (omega arith) in omega (arith, h))
-    file
-    (small_tail _ (length (codes "steps " ++ decimal 0)) (length (codes "end " ++ (codes "t " ++ set_text x)))
-    (two_length (codes "steps " ++ decimal 0) (codes "end " ++ (codes "t " ++ set_text x)))
-    (let h = keyed_length (codes "steps ") 0 (omega arith) in omega (arith, h))
-    (end_length x set))
+-- nor that of a stop
+not_stopped : (opened : ℕ) (fault : Fault) → Stopped opened ≡ Refused fault → ⊥
+not_stopped opened fault is = cc
 
 -- what is written is accepted
 pub written_logs_are_accepted : WrittenLogsAreAccepted
-written_logs_are_accepted bytes text (m, file, r) = inr (
-  short,
-  record {
-    field = gf2;
-    over = refl;
-    log = short_log m r.set;
-    accepted = r.accepted;
-    none = r.none;
-    text_is = refl;
-  },
-)
-  where
-    same : r.frame.matroid ≡ m
-    same = r.is_frame.matroid
+written_logs_are_accepted q workers nodes split orbits bytes text (inl long) = absurd (not_negative TooLong long.1)
+written_logs_are_accepted q workers nodes split orbits bytes text (inr (few, (f, over, inr refused))) = absurd (not_negative refused.0 refused.2)
+written_logs_are_accepted q workers nodes split orbits bytes text (inr (few, (f, over, inl (m, file, solves)))) =
+    let refuted = solved_negative f nodes split orbits m text solves in
+    inr (
+      refuted.within,
+      (
+        f,
+        over,
+        record {
+          log = refuted.log;
+          accepted = refuted.accepted;
+          none = subst (λ (k : Presentation). HasNoRepresentation k f) (sym refuted.matroid) refuted.none;
+          text_is = refl;
+        },
+      ),
+    )
 
-    size : IsSetOf m.elements m.rank r.set
-    size = subst (λ (k : Presentation). IsSetOf k.elements k.rank r.set) same r.first.fails.size
+-- more nodes than there are can't be opened
+too_many : (f : Gf) (m k : Presentation) (nodes split need : ℕ) (frame : Framed) → HasMoreNodes f k nodes split → IsFrame frame → frame.matroid ≡ m → k ≡ m → order frame.field ≡ order f → IsNeed frame (min split (length frame.places)) need → need ≤ nodes → ⊥
+too_many f m k nodes split need frame more is matroid file over needs le =
+    let same : more.frame ≡ frame = one_frame more.frame frame more.is_frame.frame is (more.is_frame.matroid ∙ file ∙ sym matroid) (more.is_frame.over ∙ same_field f frame.field (sym over)) in
+    let many = subst (λ (g : Framed). HoldsOfMany (IsNode g (min split (length g.places))) (nodes + 1)) same more.more in
+    let most = at_most (IsNode frame (min split (length frame.places))) (nodes + 1) need many needs in
+    omega arith
 
-    short : length text ≤ 268435456
-    short =
-        let elements = file.limits.elements in
-        let rank = file.matroid.presentation.rank in
-        subst (λ (t : List ℕ). length t ≤ 268435456) (sym r.text_is)
-        (short_length m r.set (file_length m file.matroid.presentation file.limits) (set_length m.elements m.rank r.set elements (omega arith) size))
+-- enough nodes suffice
+pub enough_nodes_suffice : EnoughNodesSuffice
+enough_nodes_suffice q workers nodes split opened need orbits bytes text m frame file is matroid over needs le (inl long) = not_stopped opened TooLong long.1
+enough_nodes_suffice q workers nodes split opened need orbits bytes text m frame file is matroid over needs le (inr (few, (f, size, inr refused))) = not_stopped opened refused.0 refused.2
+enough_nodes_suffice q workers nodes split opened need orbits bytes text m frame file is matroid over needs le (inr (few, (f, size, inl (k, other, solves)))) =
+    let out = solved_stopped f nodes split opened orbits k text solves in
+    too_many f m k nodes split need frame out.more is matroid (one_file k m other.matroid.presentation file.matroid.presentation other.limits file.limits (sym other.text ∙ file.text)) (over ∙ sym size) needs le

@@ -1,168 +1,92 @@
--- Over two elements a frame has one assignment, the empty one: its matrix is the answer, or there is none.
-use Rattle.std.proofs.Common.{◌≡◌, ◌≢◌, ℕ, zero, suc, ◌<◌, List, [], ◌∷◌, length, get_or, refl, sym, ap, subst, ◌∙◌, ⊎_elim, arith}
-use Rattle.std.specs.Prelude.{Contains, slice_get, Some}
-use Rattle.std.specs.List.Sorted.{IsStrictlySortedBy}
-use Rattle.std.proofs.lemmas.Bool.{cases_eq}
-use Rattle.std.proofs.lemmas.List.{ext_get_or, length-replicate, get_or-replicate}
-use Rattle.std.proofs.lemmas.Option.{slice_get_past}
-use Rattle.mr_field.specs.Gf.{gf2, order}
+-- From what a search over a frame ends with to what a solve ends with.
+use Rattle.std.proofs.Common.{◌≡◌, ℕ, List, [], refl, sym, subst, inl, Bool, true, false, Result, Ok, Err, arith}
+use Rattle.std.specs.Prelude.{IfOk}
+use Rattle.mr_field.specs.Gf.{Gf, order}
 use Rattle.mr_set.specs.Matroid.{Presentation}
-use Rattle.mr_linear.specs.Matrix.{Grid, grid_cmp}
-use Rattle.mr_linear.specs.Representation.{IsMember, IsAnswer, HasNoRepresentation}
-use Rattle.mr_assign.specs.Assign.{IsAssign, no_values}
-use Rattle.mr_assign.specs.declared.TheConstants.{POSITIONS}
-use Rattle.mr_nogood.specs.declared.row.Row.{Row}
+use Rattle.mr_set.proofs.Ordered.{member_none}
 use Rattle.mr_frame.specs.Frame.{Framed, IsFrame}
-use Rattle.mr_frame.specs.Test.{IsAssignmentOf, IsFull, IsFilledBy, SetFails, IsFirstFailing}
-use Rattle.mr_frame.proofs.Uniqueness.{two_elements}
-use Rattle.mr_frame.proofs.OneVerdict.{one_filled_matrix}
-use Rattle.mr_class.specs.Forms.{IsForm}
-use Rattle.mr_class.proofs.LawsOfForms.{each_has_one_form, forms_are_members, members_come_from_one_form}
-use Rattle.mr_log.specs.Log.{log_text, IsLog}
-use Rattle.mr_check.specs.Accepted.{IsAcceptedLog}
-use Rattle.mr_check.proofs.Walk.{get_or-no_values, nothing_is_assigned}
-use Rattle.matrep.specs.Texts.{answer_text}
-use Rattle.matrep.specs.Result.{short_log, Refutes, Solves}
-use Rattle.matrep.specs.declared.outcome.Exit.TheVariants.{Done, Negative}
+use Rattle.mr_file.specs.File.{IsFileOf}
+use Rattle.mr_log.specs.declared.log.Log.{Log}
+use Rattle.mr_log.specs.Log.{log_text}
+use Rattle.mr_merge.proofs.Answering.{forms_give_the_answer, no_form_no_representation}
+use Rattle.matrep.specs.Texts.{stopped_text}
+use Rattle.matrep.specs.Result.{OfFile}
+use Rattle.matrep.specs.Solving.{Refutes, IsOutOfNodes, Solves}
+use Rattle.matrep.specs.Private.Searched.{AreForms, IsRefutedBy, IsSpentOn, IsSearchedTo}
+use Rattle.matrep.specs.declared.searching.Searched.{Searched}
+use Rattle.matrep.specs.declared.searching.Searched.TheVariants.{Forms, Refuted}
+use Rattle.matrep.specs.declared.searching.Searched.TheVariants as ended
+use Rattle.matrep.specs.declared.outcome.Exit.{Exit}
+use Rattle.matrep.specs.declared.outcome.Exit.TheVariants.{Negative, Stopped}
+use Rattle.matrep.proofs.LogLength.{log_length}
 
--- lists of at most one matrix are in order
-sorted_one : (a : Grid) → IsStrictlySortedBy grid_cmp (a ∷ [])
-unfolding IsStrictlySortedBy
-sorted_one a = (tt, tt)
+-- the log that refutes a frame's forms refutes its matroid
+pub refutes : (f : Framed) (log : Log) → IsFrame f → IsRefutedBy f log → Refutes f.field f.matroid (log_text log)
+refutes f log frame refuted =
+    let few = refuted.few in
+    record {
+      none = no_form_no_representation f frame (λ c form. member_none c ((refuted.none.exactly c).1 form));
+      empty = forms_give_the_answer f [] [] frame refuted.none tt;
+      log = log;
+      accepted = record { log = record { log = refuted.refutation.log; field = refuted.refutation.field; text = refl }; refutation = refuted.refutation.refutation };
+      matroid = refuted.refutation.matroid;
+      within = log_length f.field log refuted.refutation.log refuted.refutation.field (omega arith);
+      short = refuted.short;
+    }
 
--- the empty list is in order
-sorted_none : IsStrictlySortedBy grid_cmp []
-unfolding IsStrictlySortedBy
-sorted_none = tt
-
--- the empty map is one
-pub nothing_is_map : IsAssign no_values
-nothing_is_map = record {
-  positions = length-replicate {A = ℕ} POSITIONS 0;
-  values = λ k d lt. let small : k < POSITIONS = rw (← length-replicate {A = ℕ} POSITIONS 0) lt in rw (get_or-replicate POSITIONS k 0 d small) (omega arith);
+-- a search over a frame that was stopped
+pub out_of_nodes : (f : Framed) (nodes split opened : ℕ) → IsFrame f → IsSpentOn f nodes split opened → IsOutOfNodes f.field f.matroid nodes split opened (stopped_text opened)
+out_of_nodes f nodes split opened frame spent = record {
+  opened_is = spent.opened_is;
+  more = record { frame = f; is_frame = record { frame = frame; matroid = refl; over = refl }; more = spent.more };
+  text_is = refl;
 }
 
--- a list without steps has none
-no_step : (j : ℕ) (row : Row) → slice_get [] j ≡ Some row → ⊥
-no_step j row is = let none = slice_get_past {X = Row} [] j (omega arith) in cc
+-- what is told of a log holds whether orbits are asked for or not
+pub negative_solves : (f : Gf) (nodes split : ℕ) (orbits : Bool) (m : Presentation) (text : List ℕ) → Refutes f m text → Solves f nodes split orbits m Negative text
+negative_solves f nodes split true m text refuted = refuted
+negative_solves f nodes split false m text refuted = refuted
 
-module _ (f : Framed) (frame : IsFrame f) (two : f.field ≡ gf2) where
-  -- no position is free
-  pub none_free : length f.places ≡ 0
-  none_free = ap length (frame.none two)
+-- and the other way round
+pub solved_negative : (f : Gf) (nodes split : ℕ) (orbits : Bool) (m : Presentation) (text : List ℕ) → Solves f nodes split orbits m Negative text → Refutes f m text
+solved_negative f nodes split true m text refuted = refuted
+solved_negative f nodes split false m text refuted = refuted
 
-  -- so each position has a value
-  pub nothing_is_full : IsFull f no_values
-  nothing_is_full p lt = absurd (omega (arith, lt, none_free))
+-- the same of a search that was stopped
+pub stopped_solves : (f : Gf) (nodes split opened : ℕ) (orbits : Bool) (m : Presentation) (text : List ℕ) → IsOutOfNodes f m nodes split opened text → Solves f nodes split orbits m (Stopped opened) text
+stopped_solves f nodes split opened true m text out = out
+stopped_solves f nodes split opened false m text out = out
 
-  -- and no other map is an assignment
-  only_nothing : (c : List ℕ) → IsAssign c → IsAssignmentOf f c → c ≡ no_values
-  only_nothing c map assigned = ext_get_or 0 c no_values (map.positions ∙ sym nothing_is_map.positions) (λ p lt. none p ∙ sym (get_or-no_values p))
-    where
-      none : (p : ℕ) → get_or c p 0 ≡ 0
-      none p = ⊎_elim
-          (λ (zero_at : get_or c p 0 ≡ 0). zero_at)
-          (λ (some : get_or c p 0 ≢ 0). let free = (assigned p some).0 in absurd (omega (arith, free, none_free)))
-          (cases_eq (get_or c p 0) 0)
+-- and the other way round
+pub solved_stopped : (f : Gf) (nodes split opened : ℕ) (orbits : Bool) (m : Presentation) (text : List ℕ) → Solves f nodes split orbits m (Stopped opened) text → IsOutOfNodes f m nodes split opened text
+solved_stopped f nodes split opened true m text out = out
+solved_stopped f nodes split opened false m text out = out
 
-  -- where no set fails it is a form
-  nothing_is_form : ((x : List ℕ) → ¬ (SetFails f no_values x)) → IsForm f no_values
-  nothing_is_form holds = record { map = nothing_is_map; assignment = nothing_is_assigned f; full = nothing_is_full; contains = λ p some. refl; holds = holds }
+-- what is told of a frame holds of its matroid and field
+pub of_frame : {A E : Type 0} (exit : A → Exit) (text : A → List ℕ) (f : Framed) (m : Presentation) (field : Gf) (nodes split : ℕ) (orbits : Bool) (r : Result A E) → f.matroid ≡ m → f.field ≡ field
+    → IfOk r (λ o. Solves f.field nodes split orbits f.matroid (exit o) (text o)) → IfOk r (λ o. Solves field nodes split orbits m (exit o) (text o))
+of_frame exit text f m field nodes split orbits (Ok o) matroid over solves = subst (λ (k : Presentation). Solves field nodes split orbits k (exit o) (text o)) matroid (subst (λ (g : Gf). Solves g nodes split orbits f.matroid (exit o) (text o)) over solves)
+of_frame exit text f m field nodes split orbits (Err e) matroid over solves = tt
 
-  -- where a set fails there is no form
-  no_form : (x c : List ℕ) → SetFails f no_values x → IsForm f c → ⊥
-  no_form x c fails form = form.holds x (subst (λ (a : List ℕ). SetFails f a x) (sym (only_nothing c form.map form.assignment)) fails)
+-- an outcome of which the exit is known, and of the text what it holds
+pub outcome_told : {A E : Type 0} (exit : A → Exit) (text : A → List ℕ) (P : Exit → List ℕ → Type 0) (e : Exit) (Q : List ℕ → Type 0) (r : Result A E) → IfOk r (λ o. exit o ≡ e) → IfOk r (λ o. Q (text o)) → ((t : List ℕ) → Q t → P e t) → IfOk r (λ o. P (exit o) (text o))
+outcome_told exit text P e Q (Ok o) is holds gives = subst (λ (x : Exit). P x (text o)) (sym is) (gives (text o) holds)
+outcome_told exit text P e Q (Err f) is holds gives = tt
 
-  -- the matrix of the empty assignment is the answer where no set fails
-  pub answer_one : (g : Grid) → ((x : List ℕ) → ¬ (SetFails f no_values x)) → IsFilledBy f no_values g → IsAnswer f.matroid 2 (g ∷ [])
-  answer_one g holds filled = record { increasing = sorted_one g; exactly = λ a. (there a, back a) }
-    where
-      size : order f.field ≡ 2
-      size = ap order two
+-- what is told of the matroid of a file
+pub solved_file : {A E : Type 0} (exit : A → Exit) (text : A → List ℕ) (f : Gf) (q nodes split : ℕ) (orbits : Bool) (bytes : List ℕ) (m : Presentation) (r : Result A E) → order f ≡ q → IsFileOf bytes m
+    → IfOk r (λ o. Solves f nodes split orbits m (exit o) (text o)) → IfOk r (λ o. (g : Gf) × (order g ≡ q) × OfFile bytes (Solves g nodes split orbits) (exit o) (text o))
+solved_file exit text f q nodes split orbits bytes m (Ok o) over file solves = (f, over, inl (m, file, solves))
+solved_file exit text f q nodes split orbits bytes m (Err e) over file solves = tt
 
-      there : (a : Grid) → Contains (g ∷ []) a → IsMember f.matroid 2 a
-      there a (k, lt, is) = subst (λ (x : Grid). IsMember f.matroid 2 x) (at k lt is) (subst (λ (q : ℕ). IsMember f.matroid q g) size (forms_are_members f no_values g frame (nothing_is_form holds) filled))
-        where
-          at : (k : ℕ) → k < 1 → get_or (g ∷ []) k a ≡ a → g ≡ a
-          at zero lt is = is
-          at (suc k) lt is = absurd (omega (arith, lt))
+-- a search that ended with forms
+pub searched_forms : (f : Framed) (nodes split : ℕ) (s : Searched) (forms : List (List ℕ)) → s ≡ Forms forms → IsSearchedTo f nodes split s → AreForms f nodes forms
+searched_forms f nodes split s forms is to = subst (IsSearchedTo f nodes split) is to
 
-      back : (a : Grid) → IsMember f.matroid 2 a → Contains (g ∷ []) a
-      back a member =
-          let source = members_come_from_one_form f a frame (subst (λ (q : ℕ). IsMember f.matroid q a) (sym size) member) in
-          let same : g ≡ a = one_filled_matrix f no_values g a filled (subst (λ (c : List ℕ). IsFilledBy f c a) (only_nothing source.form source.is.map source.is.assignment) source.filled) in
-          (0, omega arith, same)
+-- one that ended with a log
+pub searched_log : (f : Framed) (nodes split : ℕ) (s : Searched) (log : Log) → s ≡ Refuted log → IsSearchedTo f nodes split s → IsRefutedBy f log
+searched_log f nodes split s log is to = subst (IsSearchedTo f nodes split) is to
 
-  -- there is none where a set fails
-  pub answer_none : (x : List ℕ) → SetFails f no_values x → IsAnswer f.matroid 2 []
-  answer_none x fails = record { increasing = sorted_none; exactly = λ a. (λ (k, lt, is). absurd (omega (arith, lt)), λ member. absurd (none a member)) }
-    where
-      none : (a : Grid) → IsMember f.matroid 2 a → ⊥
-      none a member =
-          let source = members_come_from_one_form f a frame (subst (λ (q : ℕ). IsMember f.matroid q a) (sym (ap order two)) member) in
-          no_form x source.form fails source.is
-
-  -- no matrix represents the matroid then
-  pub no_representation : (x : List ℕ) → SetFails f no_values x → HasNoRepresentation f.matroid 2
-  no_representation x fails a size represents =
-      let one = each_has_one_form f a frame (two_elements a.field size ∙ sym two) represents in
-      no_form x one.form fails one.is.is_form
-
-  -- the log without steps is one
-  pub short_is_log : (x : List ℕ) → SetFails f no_values x → IsLog (short_log f.matroid x)
-  short_is_log x fails = record {
-    matroid = frame.matroid;
-    limits = frame.limits;
-    field = (gf2, refl);
-    count = omega arith;
-    steps = λ j row is. absurd (no_step j row is);
-    last = fails.size;
-  }
-
-  -- and is accepted
-  pub short_is_accepted : (x : List ℕ) → SetFails f no_values x → IsAcceptedLog gf2 (log_text (short_log f.matroid x)) (short_log f.matroid x)
-  short_is_accepted x fails = record {
-    log = record { log = short_is_log x fails; field = refl; text = refl };
-    refutation = record {
-      frame = f;
-      is_frame = record { frame = frame; matroid = refl; over = two };
-      steps = λ j row is. absurd (no_step j row is);
-      end = fails;
-    };
-  }
-
--- where no set fails the matrix of the empty assignment is the answer
-pub done_solves : (m : Presentation) (f : Framed) (none : List ℕ) (g : Grid) → IsFrame f → f.matroid ≡ m → f.field ≡ gf2 → none ≡ no_values → ((x : List ℕ) → ¬ (SetFails f none x)) → IsFilledBy f none g → Solves m Done (answer_text 2 (g ∷ []))
-done_solves m f none g frame is two empty holds filled = (
-  g ∷ [],
-  subst (λ (k : Presentation). IsAnswer k 2 (g ∷ [])) is
-      (answer_one f frame two g (subst (λ (a : List ℕ). (x : List ℕ) → ¬ (SetFails f a x)) empty holds) (subst (λ (a : List ℕ). IsFilledBy f a g) empty filled)),
-  (λ same. cc),
-  refl,
-)
-
--- where a set fails the log that ends with the first is the answer
-pub negative_solves : (m : Presentation) (f : Framed) (none x : List ℕ) → IsFrame f → f.matroid ≡ m → f.field ≡ gf2 → none ≡ no_values → IsFirstFailing f none x → Solves m Negative (log_text (short_log m x))
-negative_solves m f none x frame is two empty found =
-    subst (λ (k : Presentation). Refutes k (log_text (short_log k x))) is (record {
-      none = no_representation f frame two x first.fails;
-      empty = answer_none f frame two x first.fails;
-      frame = f;
-      is_frame = record { frame = frame; matroid = refl; over = two };
-      set = x;
-      first = first;
-      text_is = refl;
-      accepted = short_is_accepted f frame two x first.fails;
-    })
-  where
-    first : IsFirstFailing f no_values x
-    first = subst (λ (a : List ℕ). IsFirstFailing f a x) empty found
-
--- its parts are those of a log
-pub negative_is_log : (m : Presentation) (f : Framed) (none x : List ℕ) → IsFrame f → f.matroid ≡ m → f.field ≡ gf2 → none ≡ no_values → IsFirstFailing f none x → IsLog (short_log m x)
-negative_is_log m f none x frame is two empty found =
-    subst (λ (k : Presentation). IsLog (short_log k x)) is (short_is_log f frame two x (subst (λ (a : List ℕ). IsFirstFailing f a x) empty found).fails)
-
--- the empty map, as an assignment of a frame
-pub none_is_assigned : (f : Framed) (none : List ℕ) → none ≡ no_values → IsAssignmentOf f none
-none_is_assigned f none empty = subst (IsAssignmentOf f) (sym empty) (nothing_is_assigned f)
+-- one that was stopped
+pub searched_stop : (f : Framed) (nodes split : ℕ) (s : Searched) (opened : ℕ) → s ≡ ended.Stopped opened → IsSearchedTo f nodes split s → IsSpentOn f nodes split opened
+searched_stop f nodes split s opened is to = subst (IsSearchedTo f nodes split) is to

@@ -1,8 +1,9 @@
 pub mod Words
 pub mod Texts
+pub mod Solving
+pub mod Answering
 pub mod Result
-pub mod Refusals
 pub mod Headline
 pub mod Status
 pub mod Laws
-pub mod Pieces
+pub mod Private

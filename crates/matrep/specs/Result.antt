@@ -1,110 +1,68 @@
 -- Which exit and text may stand together for a command and the bytes that were read.
-use Rattle.std.specs.Prelude.{◌≡◌, ◌≢◌, ◌⊎◌, ℕ, ◌<◌, ◌≤◌, List, [], length, false}
-use Rattle.mr_field.specs.Gf.{Gf, gf2, order}
+use Rattle.std.specs.Prelude.{◌≡◌, ◌⊎◌, ℕ, ◌<◌, ◌≤◌, List, [], length}
+use Rattle.mr_field.specs.Gf.{Gf, order}
 use Rattle.mr_set.specs.Matroid.{Presentation}
-use Rattle.mr_matroid.specs.Exchange.{HasNoBasis, IsFirstFailure}
-use Rattle.mr_text.specs.Format.{grammar, size, IsTextOf, IsFirstFaultOf}
 use Rattle.mr_file.specs.File.{IsFileOf}
-use Rattle.mr_file.specs.Reading.{whole_file}
-use Rattle.mr_linear.specs.Matrix.{Grid}
-use Rattle.mr_linear.specs.Representation.{IsAnswer, HasNoRepresentation}
-use Rattle.mr_assign.specs.Assign.{no_values}
-use Rattle.mr_frame.specs.Frame.{Framed, IsFrameOf}
-use Rattle.mr_frame.specs.Test.{IsFirstFailing}
-use Rattle.mr_nogood.specs.declared.row.Cite.TheVariants.{Test}
-use Rattle.mr_log.specs.Log.{log_text}
-use Rattle.mr_log.specs.declared.log.Log.{Log}
-use Rattle.mr_log.specs.declared.fault.Why.{Why}
-use Rattle.mr_check.specs.Accepted.{IsAcceptedLog, IsRejection}
-use Rattle.matrep.specs.Texts.{answer_text, refusal_text, accepted_text, rejected_text}
+use Rattle.mr_file.specs.Reading.{IsFileRefusal}
+use Rattle.mr_file.specs.declared.fault.FileFault.{FileFault}
+use Rattle.mr_file.specs.declared.fault.FileFault.TheVariants as file
+use Rattle.mr_matrix.specs.Block.{IsBlockOf}
+use Rattle.mr_matrix.specs.Reading.{IsMatrixRefusal}
+use Rattle.mr_matrix.specs.Pairs.{IsPairOf, IsPairRefusal}
+use Rattle.mr_matrix.specs.declared.fault.MatrixFault.{MatrixFault}
+use Rattle.mr_matrix.specs.declared.fault.MatrixFault.TheVariants as matrix
+use Rattle.matrep.specs.Texts.{refusal_text}
+use Rattle.matrep.specs.Solving.{Solves}
+use Rattle.matrep.specs.Answering.{Checks, Confirms, FindsMatroid, WritesDual, WritesMinor, CountsClasses}
 use Rattle.matrep.specs.declared.TheConstants.{FILE_BYTES, LOG_BYTES}
 use Rattle.matrep.specs.declared.words.Command.{Command}
-use Rattle.matrep.specs.declared.words.Command.TheVariants.{Solve, Check}
+use Rattle.matrep.specs.declared.words.Command.TheVariants.{Solve, Check, Confirm, MatroidOf, Dual, Minor, Plane}
 use Rattle.matrep.specs.declared.outcome.Exit.{Exit}
-use Rattle.matrep.specs.declared.outcome.Exit.TheVariants.{Done, Negative, Refused, Usage, Memory, ReadFault, WriteFault}
+use Rattle.matrep.specs.declared.outcome.Exit.TheVariants.{Refused}
 use Rattle.matrep.specs.declared.outcome.Fault.{Fault}
 use Rattle.matrep.specs.declared.outcome.Fault.TheVariants.{TooLong, Grammar, Size, NoBasis, Exchange}
 
--- there are representations over the field with two elements, and the text lists the answer
-abbrev pub ListsAnswer : Presentation → List ℕ → Type 0
-ListsAnswer m text = (answer : List Grid) × IsAnswer m 2 answer × (answer ≢ []) × (text ≡ answer_text 2 answer)
+-- the fault is the one that a refusal of a file names
+abbrev pub IsFileFault : (FileFault → Type 0) → Fault → Type 0
+IsFileFault Names (Grammar line) = Names (file.Grammar line)
+IsFileFault Names (Size line what) = Names (file.Size line what)
+IsFileFault Names NoBasis = Names file.NoBasis
+IsFileFault Names (Exchange b1 b2 x) = Names (file.Exchange b1 b2 x)
+IsFileFault Names fault = ⊥
 
--- the log without steps over the field with two elements that ends with the set x
-abbrev pub short_log : Presentation → List ℕ → Log
-short_log m x = record { matroid = m; q = 2; steps = []; last = Test x }
+-- the fault is the one that a refusal of a matrix names
+abbrev pub IsMatrixFault : (MatrixFault → Type 0) → Fault → Type 0
+IsMatrixFault Names (Grammar line) = Names (matrix.Grammar line)
+IsMatrixFault Names (Size line what) = Names (matrix.Size line what)
+IsMatrixFault Names fault = ⊥
 
--- There is none, and the text is an accepted log of the matroid: the one without steps that ends with the first set that
--- fails.
-pub record Refutes (m : Presentation) (text : List ℕ) : Type 0 where
-  pub none : HasNoRepresentation m 2
-  pub empty : IsAnswer m 2 []
-  pub frame : Framed
-  pub is_frame : IsFrameOf m gf2 frame
-  pub set : List ℕ
-  pub first : IsFirstFailing frame no_values set
-  pub text_is : text ≡ log_text (short_log m set)
-  pub accepted : IsAcceptedLog gf2 text (short_log m set)
+-- an input that is at fault is refused
+abbrev pub Refuses : (Fault → Type 0) → Exit → List ℕ → Type 0
+Refuses IsFault exit text = (fault : Fault) × IsFault fault × (exit ≡ Refused fault) × (text ≡ refusal_text fault)
 
--- the exit and the text for a matroid
-abbrev pub Solves : Presentation → Exit → List ℕ → Type 0
-Solves m Done text = ListsAnswer m text
-Solves m Negative text = Refutes m text
-Solves m (Refused fault) text = ⊥
-Solves m (Usage word) text = ⊥
-Solves m Memory text = ⊥
-Solves m ReadFault text = ⊥
-Solves m WriteFault text = ⊥
+-- the input is one that is read, and the exit and the text are its, or it is at fault
+abbrev pub OfInput : {X : Type 0} → (X → Type 0) → (Fault → Type 0) → (X → Exit → List ℕ → Type 0) → Exit → List ℕ → Type 0
+OfInput {X} Is IsFault Due exit text = ((x : X) × Is x × Due x exit text) ⊎ Refuses IsFault exit text
 
--- why a text is no file of a matroid: its first fault, or else no basis, or else the first exchange that fails
-abbrev pub IsAtFault : List ℕ → Fault → Type 0
-IsAtFault bytes TooLong = ⊥
-IsAtFault bytes (Grammar line) = IsFirstFaultOf whole_file bytes (grammar line)
-IsAtFault bytes (Size line what) = IsFirstFaultOf whole_file bytes (size line what)
-IsAtFault bytes NoBasis = (m : Presentation) × IsTextOf whole_file bytes m × HasNoBasis m
-IsAtFault bytes (Exchange b1 b2 x) = (m : Presentation) × IsTextOf whole_file bytes m × IsFirstFailure m b1 b2 x
+-- the same of the file of a matroid
+abbrev pub OfFile : List ℕ → (Presentation → Exit → List ℕ → Type 0) → Exit → List ℕ → Type 0
+OfFile bytes = OfInput (IsFileOf bytes) (IsFileFault (IsFileRefusal bytes))
 
--- the exit and the text for a text: the file of a matroid is solved, and another text is refused
-abbrev pub AllowsFile : List ℕ → Exit → List ℕ → Type 0
-AllowsFile bytes (Refused fault) text = IsAtFault bytes fault × (text ≡ refusal_text fault)
-AllowsFile bytes exit text = (m : Presentation) × IsFileOf bytes m × Solves m exit text
-
--- the log is accepted, and no matrix over the field with q elements represents its matroid
-pub record AcceptsLog (q : ℕ) (bytes text : List ℕ) : Type 0 where
-  pub field : Gf
-  pub over : order field ≡ q
-  pub log : Log
-  pub accepted : IsAcceptedLog field bytes log
-  pub none : HasNoRepresentation log.matroid q
-  pub text_is : text ≡ accepted_text
-
--- the bytes are no accepted log, and the text names the first fault
-pub record RejectsLog (q : ℕ) (bytes text : List ℕ) : Type 0 where
-  pub field : Gf
-  pub over : order field ≡ q
-  pub line : ℕ
-  pub why : Why
-  pub rejected : IsRejection field bytes line why
-  pub text_is : text ≡ rejected_text line why
-
--- the exit and the text for a text that is checked as a log over the field with q elements
-abbrev pub AllowsCheck : ℕ → List ℕ → Exit → List ℕ → Type 0
-AllowsCheck q bytes Done text = AcceptsLog q bytes text
-AllowsCheck q bytes Negative text = RejectsLog q bytes text
-AllowsCheck q bytes (Refused fault) text = ⊥
-AllowsCheck q bytes (Usage word) text = ⊥
-AllowsCheck q bytes Memory text = ⊥
-AllowsCheck q bytes ReadFault text = ⊥
-AllowsCheck q bytes WriteFault text = ⊥
-
--- the most bytes that a command reads
-abbrev pub limit_of : Command → ℕ
-limit_of (Solve q workers nodes split orbits) = FILE_BYTES
-limit_of (Check q) = LOG_BYTES
-
--- The exit and the text of a command for bytes that are not too many. `solve` is built over two elements, for projective classes.
+-- The exit and the text of a command for bytes that are not too many.
 abbrev pub Answers : Command → List ℕ → Exit → List ℕ → Type 0
-Answers (Solve q workers nodes split orbits) bytes exit text = (q ≡ 2) × (orbits ≡ false) × AllowsFile bytes exit text
-Answers (Check q) bytes exit text = AllowsCheck q bytes exit text
+Answers (Solve q workers nodes split orbits) bytes exit text = (f : Gf) × (order f ≡ q) × OfFile bytes (Solves f nodes split orbits) exit text
+Answers (Check q) bytes exit text = (f : Gf) × (order f ≡ q) × Checks f bytes exit text
+Answers (Confirm q) bytes exit text = (f : Gf) × (order f ≡ q) × OfInput (IsPairOf f bytes) (IsFileFault (IsPairRefusal f bytes)) Confirms exit text
+Answers (MatroidOf q) bytes exit text = (f : Gf) × (order f ≡ q) × OfInput (IsBlockOf f bytes) (IsMatrixFault (IsMatrixRefusal f bytes)) FindsMatroid exit text
+Answers Dual bytes exit text = OfFile bytes WritesDual exit text
+Answers (Minor delete contract) bytes exit text = OfFile bytes (WritesMinor delete contract) exit text
+Answers (Plane q) bytes exit text = (f : Gf) × (order f ≡ q) × CountsClasses f exit text
+
+-- the most bytes that a command reads; `plane` reads none
+abbrev pub limit_of : Command → ℕ
+limit_of (Check q) = LOG_BYTES
+limit_of (Plane q) = 0
+limit_of command = FILE_BYTES
 
 -- too many bytes are refused, whatever they are
 abbrev pub IsTooLong : ℕ → List ℕ → Exit → List ℕ → Type 0

@@ -1,7 +1,8 @@
 ghost use Rattle.std.specs.Prelude.{◌≡◌, ◌++◌, ◌≤◌, decimal, length, IfOk, OnOk};
 ghost use Rattle.mr_field.specs.Order.{IsOrder};
 ghost use Rattle.matrep.specs.Texts.{accepted_text, rejected_text, why_word};
-ghost use Rattle.matrep.specs.Result.{AllowsCheck};
+ghost use Rattle.mr_field.specs.Gf.{Gf, order};
+ghost use Rattle.matrep.specs.Answering.{Checks};
 
 use crate::LOG_BYTES;
 use crate::outcome::{Exit, Outcome};
@@ -15,7 +16,7 @@ use std::alloc::{AllocError, Global};
 pub fn check_bytes(alloc: Global, bytes: &[u8], q: u8) -> Result<Outcome, AllocError>
     requires field { IsOrder q }
     requires limit { length bytes.now ≤ LOG_BYTES }
-    ensures { IfOk result (λ o. AllowsCheck q bytes.now o.exit o.text) }
+    ensures { IfOk result (λ o. (f : Gf) × (order f ≡ q) × Checks f bytes.now o.exit o.text) }
 {
     let Some(field) = Field::of(u32::from(q)) else {
         unreachable!();

@@ -1,16 +1,31 @@
 //! Reads a matroid and lists its representations over a small field, or refutes that one exists.
 #![tactic(auto)]
 
-mod answer;
-mod block;
 mod check;
+#[cfg(test)]
+mod command_tests;
+mod input;
 mod laws;
+mod listing;
+mod matrices;
+mod meaning;
+mod minors;
+mod names;
+mod operands;
 mod outcome;
+mod planes;
 mod refusal;
 mod run;
+mod searching;
 mod solve;
 #[cfg(test)]
+mod solve_tests;
+mod solved_laws;
+#[cfg(test)]
 mod tests;
+mod values;
+#[cfg(test)]
+mod word_tests;
 mod words;
 
 use mr_io::{Silent, StdSink, StdSource};
@@ -24,6 +39,15 @@ pub const FILE_BYTES: usize = 1048576;
 
 /// The most bytes of a log.
 pub const LOG_BYTES: usize = 268435456;
+
+/// The most workers of a solve.
+pub const WORKERS: u32 = 1;
+
+/// The most nodes that a solve opens where its words give no number.
+pub const DEFAULT_NODES: u32 = 20000;
+
+/// The greatest order of a plane.
+pub const PLANE_ORDER: u8 = 5;
 
 // Longer than any word of a command.
 const WORD_BYTES: usize = 1024;

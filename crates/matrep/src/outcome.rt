@@ -13,6 +13,8 @@ pub enum Fault {
     Size { line: u32, what: Measure },
     NoBasis,
     Exchange { b1: Set, b2: Set, x: u32 },
+    Stranger { e: u32 },
+    RankShort { rank: u32 },
 }
 
 /// How a run ended.
@@ -22,6 +24,7 @@ pub enum Exit {
     Negative,
     Refused(Fault),
     Usage { word: u32 },
+    Stopped { opened: u32 },
     Memory,
     ReadFault,
     WriteFault,
@@ -37,6 +40,7 @@ impl Exit {
             Exit::Negative => 1,
             Exit::Refused(_) => 2,
             Exit::Usage { .. } => 3,
+            Exit::Stopped { .. } => 4,
             Exit::Memory => 5,
             Exit::ReadFault => 6,
             Exit::WriteFault => 7,

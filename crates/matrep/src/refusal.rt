@@ -41,6 +41,8 @@ fn put_words(fault: &Fault, text: &mut Text) -> Result<(), AllocError>
         Fault::Size { line, what } => put_size(line, what, text),
         Fault::NoBasis => text.put(b"no basis"),
         Fault::Exchange { b1, b2, x } => put_exchange(b1, b2, x, text),
+        Fault::Stranger { e } => put_numbered(b"stranger ", e, text),
+        Fault::RankShort { rank } => put_numbered(b"rank ", rank, text),
     }
 }
 

@@ -1,50 +1,89 @@
-ghost use Rattle.std.specs.Prelude.{◌≡◌, ◌≤◌, length, IfOk, MatchOption, Some, false};
-ghost use Rattle.matrep.specs.Result.{AllowsFile};
-ghost use Rattle.matrep.specs.Refusals.{as_file_fault};
+ghost use Rattle.std.specs.Prelude.{◌≡◌, ◌≤◌, length, IfOk};
+ghost use Rattle.mr_field.specs.Gf.{Gf, order};
+ghost use Rattle.mr_field.specs.Order.{IsOrder};
+ghost use Rattle.mr_log.specs.Log.{IsLog, log_text};
+ghost use Rattle.mr_exchange.specs.declared.TheConstants.{NODES, SPLIT};
+ghost use Rattle.matrep.specs.Result.{OfFile};
+ghost use Rattle.matrep.specs.Solving.{Solves};
 
 use crate::FILE_BYTES;
-use crate::answer::answer;
-use crate::outcome::{Fault, Outcome};
-use crate::refusal::refused;
+use crate::input::refused_file;
+use crate::listing::{list_classes, list_orbits, stopped};
+use crate::outcome::{Exit, Outcome};
+use crate::searching::{Searched, search_frame};
 use mr_field::Field;
-use mr_file::{FileFault, read_matroid};
+use mr_file::read_matroid;
+use mr_frame::Frame;
+use mr_log::{Log, write_log};
+use mr_matroid::Matroid;
 use std::alloc::{AllocError, Global};
 
-/// The exit and the text for the bytes of a file.
+/// The exit and the text of a solve over the field with `q` elements for the bytes of a file, with one worker, at most
+/// `nodes` nodes and a split of the first `split` positions.
 pub fn solve_one(
     alloc: Global,
     bytes: &[u8],
     q: u8,
-    _nodes: u32,
-    _split: u32,
-    _orbits: bool,
+    nodes: u32,
+    split: u32,
+    orbits: bool,
 ) -> Result<Outcome, AllocError>
-    requires field { q ≡ 2 }
-    requires orbits { _orbits ≡ false }
+    requires field { IsOrder q }
+    requires some_nodes { 1 ≤ nodes }
+    requires few_nodes { nodes ≤ NODES }
+    requires few_split { split ≤ SPLIT }
     requires limit { length bytes.now ≤ FILE_BYTES }
-    ensures { IfOk result (λ o. AllowsFile bytes.now o.exit o.text) }
+    ensures { IfOk result (λ o. (f : Gf) × (order f ≡ q) × OfFile bytes.now (Solves f nodes split orbits) o.exit o.text) }
 {
     let Some(field) = Field::of(u32::from(q)) else {
         unreachable!();
     };
     match read_matroid(alloc, bytes) {
-        Ok(m) => answer(alloc, m, field),
-        Err(fault) => match fault_of(fault) {
-            Some(fault) => refused(alloc, fault),
-            None => Err(AllocError),
+        Ok(m) => solve_matroid(alloc, m, field, nodes, split, orbits),
+        Err(fault) => refused_file(alloc, fault),
+    }
+}
+
+// The outcome for a matroid.
+fn solve_matroid(
+    alloc: Global,
+    m: Matroid,
+    field: Field,
+    nodes: u32,
+    split: u32,
+    orbits: bool,
+) -> Result<Outcome, AllocError>
+    requires some_nodes { 1 ≤ nodes }
+    requires few_nodes { nodes ≤ NODES }
+    requires few_split { split ≤ SPLIT }
+    ensures { IfOk result (λ o. Solves field nodes split orbits m o.exit o.text) }
+{
+    let frame = Frame::new(alloc, m, field)?;
+    match search_frame(alloc, &frame, nodes, split) {
+        Err(e) => Err(e),
+        Ok(searched) => match searched {
+            Searched::Forms(forms) => {
+                if orbits {
+                    list_orbits(alloc, &frame, &forms)
+                } else {
+                    list_classes(alloc, &frame, &forms)
+                }
+            }
+            Searched::Refuted(log) => refuted(alloc, &log),
+            Searched::Stopped { opened } => stopped(alloc, opened),
         },
     }
 }
 
-// The same refusal of the input, but for want of memory.
-fn fault_of(fault: FileFault) -> Option<Fault>
-    ensures { MatchOption result (fault ≡ FileFault.Memory) (λ f. as_file_fault f ≡ Some fault) }
+// The outcome with a log.
+fn refuted(alloc: Global, log: &Log) -> Result<Outcome, AllocError>
+    requires { IsLog log.now }
+    ensures exit { IfOk result (λ o. o.exit ≡ Exit.Negative) }
+    ensures text { IfOk result (λ o. o.text ≡ log_text log.now) }
 {
-    match fault {
-        FileFault::Grammar { line } => Some(Fault::Grammar { line }),
-        FileFault::Size { line, what } => Some(Fault::Size { line, what }),
-        FileFault::NoBasis => Some(Fault::NoBasis),
-        FileFault::Exchange { b1, b2, x } => Some(Fault::Exchange { b1, b2, x }),
-        FileFault::Memory => None,
-    }
+    let text = write_log(alloc, log)?;
+    Ok(Outcome {
+        exit: Exit::Negative,
+        text,
+    })
 }

@@ -1,6 +1,5 @@
 use crate::check::check_bytes;
 use crate::run::run;
-use crate::solve::solve_one;
 use mr_io::{MemSink, MemSource, Silent, Source, SureSource};
 use std::alloc::Global;
 use std::sync::Wait;
@@ -19,7 +18,7 @@ const U24_LOG: &[u8] =
     b"refutation 1\nfield 2\nmatroid 1\nelements 4\nrank 2\nnonbases 0\nend\nsteps 0\nend t 2 3\n";
 
 // The words, each a string of its own.
-fn strings(alloc: Global, words: &[&str]) -> Result<Vec<String>, Fail> {
+pub(crate) fn strings(alloc: Global, words: &[&str]) -> Result<Vec<String>, Fail> {
     let mut list = Vec::new(alloc);
     for word in words {
         list.push(String::from_str(alloc, word)?)?;
@@ -139,27 +138,27 @@ fn one_byte_more_than_the_limit_is_too_long(rt: HostRuntime) -> Result<(), Fail>
 }
 
 #[test]
-fn other_words_offend_at_their_place(rt: HostRuntime) -> Result<(), Fail> {
+fn a_command_is_run_with_its_operands(rt: HostRuntime) -> Result<(), Fail> {
     let alloc = rt.alloc();
-    let cases: [(&[&str], &[u8]); 13] = [
-        (&[], b"usage word 0\n"),
-        (&["--help"], b"usage word 0\n"),
-        (&["dual"], b"usage word 0\n"),
-        (&["solve"], b"usage word 1\n"),
-        (&["solve", "field=3"], b"usage word 1\n"),
-        (&["solve", "nodes=5"], b"usage word 1\n"),
-        (&["solve", "field=2", "field=2"], b"usage word 2\n"),
-        (&["check"], b"usage word 1\n"),
-        (&["check", "field=6"], b"usage word 1\n"),
-        (&["check", "field=03"], b"usage word 1\n"),
-        (&["check", "field"], b"usage word 1\n"),
-        (&["check", "field=3", "field=4"], b"usage word 2\n"),
-        (&["check", "field=3", ""], b"usage word 2\n"),
+    let cases: [(&[&str], u8, &[u8]); 6] = [
+        (&["dual"], 0, U24),
+        (&["minor", "delete=7"], 2, b"refused stranger 7\n"),
+        (&["solve", "field=4", "nodes=1"], 4, b"stopped opened 1\n"),
+        (&["solve", "field=6"], 3, b"usage word 1\n"),
+        (&["minor", "delete=0", "delete=1"], 3, b"usage word 2\n"),
+        (
+            &["solve", "split=1", "classes=auto", "field=4"],
+            0,
+            b"orbits 1 field 4\norbit 2\nmatrix 4 2 4\n1 0 1 1\n0 1 1 2\nend\n",
+        ),
     ];
-    for (words, text) in cases {
-        let mut source = SureSource::new(alloc, FANO)?;
+    for (words, status, text) in cases {
+        let mut source = SureSource::new(alloc, U24)?;
         let mut sink = MemSink::new(alloc, 100, 4096, [].as_slice())?;
-        assert_eq!(rt; status_of(&rt, alloc, words, &mut source, &mut sink)?, 3);
+        assert_eq!(rt;
+            status_of(&rt, alloc, words, &mut source, &mut sink)?,
+            status
+        );
         assert_eq!(rt; sink.held(), text);
     }
     Ok(())
@@ -176,14 +175,6 @@ fn a_device_that_fails_ends_the_run(rt: HostRuntime) -> Result<(), Fail> {
     let mut sink = MemSink::new(alloc, 8, 4096, [2].as_slice())?;
     assert_eq!(rt; solve(&rt, alloc, FANO, &mut sink)?, 7);
     assert_eq!(rt; sink.held(), b"represen".as_slice());
-    Ok(())
-}
-
-#[test]
-fn one_worker_gives_the_text_of_a_run(rt: HostRuntime) -> Result<(), Fail> {
-    let outcome = solve_one(rt.alloc(), FANO, 2, 20000, 0, false)?;
-    assert_eq!(rt; outcome.exit.status(), 0);
-    assert_eq!(rt; outcome.text.as_bytes(), FANO_DONE);
     Ok(())
 }
 

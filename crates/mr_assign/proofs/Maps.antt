@@ -1,15 +1,19 @@
 -- Partial maps by their values.
-use Rattle.std.proofs.Common.{◌≡◌, ◌≢◌, ℕ, zero, suc, ◌+◌, ◌<◌, ◌≤◌, ◌↔◌, true, false, cond, eqb, List, [], ◌∷◌, length, set, take, get_or, refl, sym, ap, subst, ◌∙◌, inl, inr, arith, length-set, get_or-set_same, get_or-set_other}
+use Rattle.std.proofs.Common.{◌≡◌, ◌≢◌, ℕ, zero, suc, ◌+◌, ◌<◌, ◌≤◌, ◌↔◌, true, false, cond, eqb, List, [], ◌∷◌, length, set, take, get_or, refl, sym, ap, subst, ◌∙◌, ⊎_elim, inl, inr, arith, length-set, get_or-set_same, get_or-set_other}
 use Rattle.std.specs.Prelude.{Any, IsTrue, ◌==◌, if◌then◌else◌, count_by, nat_lt}
+use Rattle.std.proofs.Common.{◌*◌}
+use Rattle.std.specs.Prelude.{◌/◌, ◌%◌, ◌^◌}
+use Rattle.std.proofs.Math.Nat.{zero-div}
 use Rattle.std.proofs.lemmas.Bool.{cases_eq, cases_lt}
 use Rattle.std.proofs.lemmas.Bool.Decides.{nat_tests, Decides-eqb, Decides-ltb}
-use Rattle.std.proofs.lemmas.List.{ext_get_or, get_or_default, get_or_past, take_all, length-take-le}
+use Rattle.std.proofs.lemmas.List.{ext_get_or, get_or_default, get_or_past, get_or-replicate, length-replicate, take_all, length-take-le}
 use Rattle.std.proofs.lemmas.List.Elements.{All-from_get_or}
 use Rattle.std.proofs.lemmas.List.Sums.{count_by-le-length, count_by_more_yes, count_by_more_no}
 use Rattle.mr_assign.specs.declared.TheConstants.{POSITIONS, VALUES}
-use Rattle.mr_assign.specs.Assign.{IsAssign, IsPartOf, IsConflict, union}
-use Rattle.mr_assign.specs.Packing.{nibble_at, nibbles, IsPacking}
-use Rattle.mr_assign.specs.Again.{length-nibbles, get_or-nibbles}
+use Rattle.mr_assign.specs.Assign.{IsAssign, IsPartOf, IsConflict, map_union, no_values}
+use Rattle.mr_assign.specs.Packing.{nibble_at, nibbles}
+use Rattle.mr_assign.specs.Private.Packing.{IsPacking}
+use Rattle.mr_assign.specs.Private.Again.{length-nibbles, get_or-nibbles}
 
 -- the nibbles of a packing are a value or 0 at each position
 pub assign-nibbles : (ws : List ℕ) → IsPacking ws → IsAssign (nibbles ws)
@@ -44,12 +48,12 @@ part ws vs a b isa isb agrees = (
   λ h. refl,
 )
 
--- the value of a position in the union of two maps
+-- the value of a position in the map_union of two maps
 abbrev pub either : ℕ → ℕ → ℕ
 either x y = if x == 0 then y else x
 
--- the union is made position by position
-pub get_or-union : (a b : List ℕ) (p : ℕ) → length a ≡ length b → get_or (union a b) p 0 ≡ either (get_or a p 0) (get_or b p 0)
+-- the map_union is made position by position
+pub get_or-union : (a b : List ℕ) (p : ℕ) → length a ≡ length b → get_or (map_union a b) p 0 ≡ either (get_or a p 0) (get_or b p 0)
 get_or-union [] [] p same = refl
 get_or-union [] (y ∷ b) p same = absurd (omega arith)
 get_or-union (x ∷ a) [] p same = absurd (omega arith)
@@ -57,7 +61,7 @@ get_or-union (x ∷ a) (y ∷ b) zero same = refl
 get_or-union (x ∷ a) (y ∷ b) (suc p) same = get_or-union a b p (omega arith)
 
 -- and has the positions of the two maps
-pub length-union : (a b : List ℕ) → length a ≡ length b → length (union a b) ≡ length a
+pub length-union : (a b : List ℕ) → length a ≡ length b → length (map_union a b) ≡ length a
 length-union [] [] same = refl
 length-union [] (y ∷ b) same = absurd (omega arith)
 length-union (x ∷ a) [] same = absurd (omega arith)
@@ -125,13 +129,13 @@ joined_without ws vs both p h lt none = record {
   above = λ k le inside. h.above k (omega arith) inside;
 }
 
--- after the last position the join is the union
-pub joined_all : (ws vs a b both : List ℕ) → nibbles ws ≡ a → nibbles vs ≡ b → IsJoined ws vs both POSITIONS → both ≡ union a b
+-- after the last position the join is the map_union
+pub joined_all : (ws vs a b both : List ℕ) → nibbles ws ≡ a → nibbles vs ≡ b → IsJoined ws vs both POSITIONS → both ≡ map_union a b
 joined_all ws vs a b both isa isb h =
     let na : length a ≡ POSITIONS = sym (ap length isa) ∙ length-nibbles ws in
     let nb : length b ≡ POSITIONS = sym (ap length isb) ∙ length-nibbles vs in
     let same : length a ≡ length b = na ∙ sym nb in
-    ext_get_or 0 both (union a b) (h.size ∙ sym (length-union a b same ∙ na)) (λ k lt.
+    ext_get_or 0 both (map_union a b) (h.size ∙ sym (length-union a b same ∙ na)) (λ k lt.
     let small : k < POSITIONS = let n = h.size in omega arith in
     h.below k small ∙ ap (λ x. either x (nibble_at vs k)) (value-view ws a k isa small) ∙ ap (either (get_or a k 0)) (value-view vs b k isb small) ∙ sym (get_or-union a b k same))
 
@@ -176,6 +180,16 @@ count_below_no ws p lt none =
     count_by_more_no (λ v. nat_lt 0 v) (nibbles ws) p 0 (let n = length-nibbles ws in omega arith)
     (ap (nat_lt 0) (get_or-nibbles ws p lt) ∙ (let e : nibble_at ws p ≡ 0 = omega arith in ap (nat_lt 0) e))
 
+-- a word of zeros counts nothing
+pub count_below_skip : (ws : List ℕ) (i n : ℕ) → i < 6 → n ≤ 16 → get_or ws i 0 ≡ 0 → count_below ws (16 * i + n) ≡ count_below ws (16 * i)
+count_below_skip ws i zero small le none = ap (count_below ws) (let e : 16 * i + 0 ≡ 16 * i = omega arith in e)
+count_below_skip ws i (suc n) small le none =
+    let next : 16 * i + suc n ≡ (16 * i + n) + 1 = omega arith in
+    let word : (16 * i + n) / 16 ≡ i = omega arith in
+    let zero_word : get_or ws ((16 * i + n) / 16) 0 ≡ 0 = ap (λ (k : ℕ). get_or ws k 0) word ∙ none in
+    let nothing : nibble_at ws (16 * i + n) ≡ 0 = ap (λ (w : ℕ). w / 2 ^ (4 * ((16 * i + n) % 16)) % 16) zero_word ∙ ap (λ (w : ℕ). w % 16) (zero-div (2 ^ (4 * ((16 * i + n) % 16)))) in
+    ap (count_below ws) next ∙ count_below_no ws (16 * i + n) (omega arith) (omega arith) ∙ count_below_skip ws i n small (omega arith) none
+
 -- below the last position all values are counted
 pub count_below_all : (ws a : List ℕ) → nibbles ws ≡ a → count_below ws POSITIONS ≡ count_by (λ v. nat_lt 0 v) a
 count_below_all ws a is = ap (count_by (λ v. nat_lt 0 v)) (take_all POSITIONS (nibbles ws) (let n = length-nibbles ws in omega arith)) ∙ ap (count_by (λ v. nat_lt 0 v)) is
@@ -191,3 +205,10 @@ none_above ws small (p, v, lt, read, high) =
     let is : v ≡ nibble_at ws p = sym read ∙ get_or_default (nibbles ws) p v 0 lt ∙ get_or-nibbles ws p inside in
     let le = small p inside in
     omega arith
+
+-- the map without values gives none
+pub get_or-no_values : (p : ℕ) → get_or no_values p 0 ≡ 0
+get_or-no_values p = ⊎_elim
+    (λ (lt : p < POSITIONS). get_or-replicate POSITIONS p 0 0 lt)
+    (λ (le : POSITIONS ≤ p). get_or_past no_values p 0 (let size = length-replicate {A = ℕ} POSITIONS 0 in omega arith))
+    (cases_lt p POSITIONS)

@@ -7,9 +7,10 @@ use Rattle.std.proofs.lemmas.List.{ext_get_or}
 use Rattle.std.proofs.Math.Pow.{mod-mod-pow}
 use Rattle.std.proofs.Math.Nat.{mod-eq_of_lt}
 use Rattle.mr_assign.specs.declared.TheConstants.{POSITIONS, CLAUSE_WORDS, VALUES}
-use Rattle.mr_assign.specs.Packing.{nibble, nibble_at, nibbles, packed, IsPacking, words_of}
-use Rattle.mr_assign.specs.Again.{packed-same, packed-nibble, place, length-nibbles, get_or-nibbles, get_or-words_of}
-use Rattle.mr_assign.specs.Words.{nonzero, HasValues}
+use Rattle.mr_assign.specs.Packing.{nibble, nibble_at, nibbles, packed_values, map_words}
+use Rattle.mr_assign.specs.Private.Packing.{IsPacking}
+use Rattle.mr_assign.specs.Private.Again.{packed-same, packed-nibble, place, length-nibbles, get_or-nibbles, get_or-words_of}
+use Rattle.mr_assign.specs.Private.Words.{nonzero, HasValues}
 use Rattle.mr_assign.specs.Assign.{IsAssign, IsPartOf}
 use Rattle.mr_assign.proofs.Maps.{AgreesBelow, value-view}
 
@@ -22,12 +23,12 @@ next_power : (n : ℕ) → 2 ^ (4 * suc n) ≡ 2 ^ (4 * n) * 16
 next_power n = ap (λ k. 2 ^ k) (let e : 4 * suc n ≡ 4 * n + 4 = omega arith in e) ∙ pow-add 2 (4 * n) 4
 
 -- n nibbles fill no more than 4 n bits
-pub packed-lt : (n : ℕ) (f : ℕ → ℕ) → ((k : ℕ) → k < n → f k < 16) → packed n f < 2 ^ (4 * n)
-unfolding packed
+pub packed-lt : (n : ℕ) (f : ℕ → ℕ) → ((k : ℕ) → k < n → f k < 16) → packed_values n f < 2 ^ (4 * n)
+unfolding packed_values
 packed-lt zero f small = omega arith
 packed-lt (suc n) f small =
-    subst (λ m. f n * 2 ^ (4 * n) + packed n f < m) (sym (next_power n))
-    (mul-add-lt (f n) (2 ^ (4 * n)) (packed n f) 16 (small n (omega arith)) (packed-lt n f (λ k lt. small k (omega arith))))
+    subst (λ m. f n * 2 ^ (4 * n) + packed_values n f < m) (sym (next_power n))
+    (mul-add-lt (f n) (2 ^ (4 * n)) (packed_values n f) 16 (small n (omega arith)) (packed-lt n f (λ k lt. small k (omega arith))))
 
 -- a nibble among the lowest n stands in what is left at 4 n bits
 nibble-low : (w n k : ℕ) → k < n → nibble w k ≡ nibble (w % 2 ^ (4 * n)) k
@@ -37,38 +38,38 @@ nibble-low w n k lt =
     let cut : w % 2 ^ (4 * n) % 2 ^ (4 + 4 * k) ≡ w % 2 ^ (4 + 4 * k) = ap (λ m. w % 2 ^ m % 2 ^ (4 + 4 * k)) e ∙ mod-mod-pow w j (4 + 4 * k) in
     sym (field_of w 4 (4 * k)) ∙ ap (λ m. m / 2 ^ (4 * k)) (sym cut) ∙ field_of (w % 2 ^ (4 * n)) 4 (4 * k)
 
--- the nibbles of a packed word are those that were packed
-pub nibble-packed : (n : ℕ) (f : ℕ → ℕ) → ((k : ℕ) → k < n → f k < 16) → (k : ℕ) → k < n → nibble (packed n f) k ≡ f k
-unfolding packed
+-- the nibbles of a packed_values word are those that were packed_values
+pub nibble-packed : (n : ℕ) (f : ℕ → ℕ) → ((k : ℕ) → k < n → f k < 16) → (k : ℕ) → k < n → nibble (packed_values n f) k ≡ f k
+unfolding packed_values
 nibble-packed zero f small k lt = absurd (omega arith)
 nibble-packed (suc n) f small k lt =
-    let low : packed n f < 2 ^ (4 * n) = packed-lt n f (λ j l. small j (omega arith)) in
+    let low : packed_values n f < 2 ^ (4 * n) = packed-lt n f (λ j l. small j (omega arith)) in
     ⊎_elim
-    (λ (p : k < n). nibble-low (f n * 2 ^ (4 * n) + packed n f) n k p ∙ ap (λ m. nibble m k) (mod_low (f n) (4 * n) (packed n f) low) ∙ nibble-packed n f (λ j l. small j (omega arith)) k p)
+    (λ (p : k < n). nibble-low (f n * 2 ^ (4 * n) + packed_values n f) n k p ∙ ap (λ m. nibble m k) (mod_low (f n) (4 * n) (packed_values n f) low) ∙ nibble-packed n f (λ j l. small j (omega arith)) k p)
     (λ (p : n ≤ k). let is : k ≡ n = omega arith in
-    ap (nibble (f n * 2 ^ (4 * n) + packed n f)) is ∙ ap (λ m. m % 16) (shr_high (f n) (4 * n) (packed n f) low) ∙ mod-eq_of_lt (small n (omega arith)) ∙ ap f (sym is))
+    ap (nibble (f n * 2 ^ (4 * n) + packed_values n f)) is ∙ ap (λ m. m % 16) (shr_high (f n) (4 * n) (packed_values n f) low) ∙ mod-eq_of_lt (small n (omega arith)) ∙ ap f (sym is))
     (cases_lt k n)
 
--- packed words are added nibble by nibble
-packed-add : (n : ℕ) (f g : ℕ → ℕ) → packed n f + packed n g ≡ packed n (λ k. f k + g k)
-unfolding packed
+-- packed_values words are added nibble by nibble
+packed-add : (n : ℕ) (f g : ℕ → ℕ) → packed_values n f + packed_values n g ≡ packed_values n (λ k. f k + g k)
+unfolding packed_values
 packed-add zero f g = refl
-packed-add (suc n) f g = let rest = packed-add n f g in regroup (f n) (g n) (2 ^ (4 * n)) (packed n f) (packed n g) (packed n (λ k. f k + g k)) rest
+packed-add (suc n) f g = let rest = packed-add n f g in regroup (f n) (g n) (2 ^ (4 * n)) (packed_values n f) (packed_values n g) (packed_values n (λ k. f k + g k)) rest
   where
     regroup : (a b p x y z : ℕ) → x + y ≡ z → (a * p + x) + (b * p + y) ≡ (a + b) * p + z
     regroup a b p x y z e = grind arith
 
 -- and multiplied nibble by nibble
-packed-mul : (n c : ℕ) (f : ℕ → ℕ) → packed n f * c ≡ packed n (λ k. f k * c)
-unfolding packed
+packed-mul : (n c : ℕ) (f : ℕ → ℕ) → packed_values n f * c ≡ packed_values n (λ k. f k * c)
+unfolding packed_values
 packed-mul zero c f = omega arith
-packed-mul (suc n) c f = let rest = packed-mul n c f in regroup (f n) (2 ^ (4 * n)) (packed n f) c (packed n (λ k. f k * c)) rest
+packed-mul (suc n) c f = let rest = packed-mul n c f in regroup (f n) (2 ^ (4 * n)) (packed_values n f) c (packed_values n (λ k. f k * c)) rest
   where
     regroup : (a p x c z : ℕ) → x * c ≡ z → (a * p + x) * c ≡ (a * c) * p + z
     regroup a p x c z e = grind arith
 
--- a word is its nibbles, packed
-pub packed_word : (w : ℕ) → w < 2 ^ 64 → packed 16 (nibble w) ≡ w
+-- a word is its nibbles, packed_values
+pub packed_word : (w : ℕ) → w < 2 ^ 64 → packed_values 16 (nibble w) ≡ w
 packed_word w small = packed-nibble 16 w ∙ mod-eq_of_lt small
 
 -- words with the same nibbles are one word
@@ -76,18 +77,18 @@ pub same_words : (a b : ℕ) → a < 2 ^ 64 → b < 2 ^ 64 → ((k : ℕ) → k 
 same_words a b sa sb same = sym (packed_word a sa) ∙ packed-same 16 (nibble a) (nibble b) same ∙ packed_word b sb
 
 -- the word of sixteen sevens
-sevens : packed 16 (λ _. 7) ≡ 0x7777777777777777
-unfolding packed
+sevens : packed_values 16 (λ _. 7) ≡ 0x7777777777777777
+unfolding packed_values
 sevens = refl
 
 -- the word of sixteen eights
-eights : packed 16 (λ _. 8) ≡ 0x8888888888888888
-unfolding packed
+eights : packed_values 16 (λ _. 8) ≡ 0x8888888888888888
+unfolding packed_values
 eights = refl
 
 -- seven more in each nibble
-raised : (w : ℕ) → w < 2 ^ 64 → w + 0x7777777777777777 ≡ packed 16 (λ k. nibble w k + 7)
-raised w small = sym (ap (λ m. m + 0x7777777777777777) (packed_word w small)) ∙ ap (λ m. packed 16 (nibble w) + m) (sym sevens) ∙ packed-add 16 (nibble w) (λ _. 7)
+raised : (w : ℕ) → w < 2 ^ 64 → w + 0x7777777777777777 ≡ packed_values 16 (λ k. nibble w k + 7)
+raised w small = sym (ap (λ m. m + 0x7777777777777777) (packed_word w small)) ∙ ap (λ m. packed_values 16 (nibble w) + m) (sym sevens) ∙ packed-add 16 (nibble w) (λ _. 7)
 
 -- and no carry leaves the word, as no nibble is above VALUES
 pub raised-lt : (w : ℕ) → w < 2 ^ 64 → ((k : ℕ) → k < 16 → nibble w k ≤ 8) → w + 0x7777777777777777 < 2 ^ 64
@@ -117,7 +118,7 @@ high_bit (suc (suc (suc (suc (suc (suc (suc (suc zero)))))))) le = refl
 high_bit (suc (suc (suc (suc (suc (suc (suc (suc (suc n))))))))) le = absurd (omega arith)
 
 -- the nibbles that aren't 0, as bits
-pub flags : (w : ℕ) → w < 2 ^ 64 → ((k : ℕ) → k < 16 → nibble w k ≤ 8) → bit_and (w + 0x7777777777777777) 0x8888888888888888 / 2 ^ 3 ≡ packed 16 (λ k. nonzero (nibble w k))
+pub flags : (w : ℕ) → w < 2 ^ 64 → ((k : ℕ) → k < 16 → nibble w k ≤ 8) → bit_and (w + 0x7777777777777777) 0x8888888888888888 / 2 ^ 3 ≡ packed_values 16 (λ k. nonzero (nibble w k))
 flags w small values =
     let low : bit_and (w + 0x7777777777777777) 0x8888888888888888 < 2 ^ 64 =
     let le = and_le_l (w + 0x7777777777777777) 0x8888888888888888 in let lt = raised-lt w small values in omega arith in
@@ -128,9 +129,9 @@ flags w small values =
     ∙ ap (λ m. bit_and m (nibble 0x8888888888888888 k)) (nibble-packed 16 (λ j. nibble w j + 7) (λ j l. let v = values j l in omega arith) k lt)
     ∙ ap (bit_and (nibble w k + 7)) (ap (λ m. nibble m k) (sym eights) ∙ nibble-packed 16 (λ _. 8) (λ j l. omega arith) k lt)
     ∙ high_bit (nibble w k) (values k lt) in
-    let word : bit_and (w + 0x7777777777777777) 0x8888888888888888 ≡ packed 16 (λ k. nonzero (nibble w k)) * 8 =
+    let word : bit_and (w + 0x7777777777777777) 0x8888888888888888 ≡ packed_values 16 (λ k. nonzero (nibble w k)) * 8 =
     sym (packed_word (bit_and (w + 0x7777777777777777) 0x8888888888888888) low) ∙ packed-same 16 (nibble (bit_and (w + 0x7777777777777777) 0x8888888888888888)) (λ k. nonzero (nibble w k) * 8) at ∙ sym (packed-mul 16 8 (λ k. nonzero (nibble w k))) in
-    ap (λ m. m / 2 ^ 3) word ∙ eighth (packed 16 (λ k. nonzero (nibble w k)))
+    ap (λ m. m / 2 ^ 3) word ∙ eighth (packed_values 16 (λ k. nonzero (nibble w k)))
   where
     eighth : (x : ℕ) → x * 8 / 8 ≡ x
     eighth x = omega arith
@@ -198,15 +199,15 @@ disagrees ws vs a b i m isa isb hw hv lt mask differs = (
 )
 
 -- a map comes back from its words
-pub nibbles-words_of : (a : List ℕ) → IsAssign a → nibbles (words_of a) ≡ a
-nibbles-words_of a h = ext_get_or 0 (nibbles (words_of a)) a (length-nibbles (words_of a) ∙ sym h.positions) (λ p lt.
-    let inside : p < POSITIONS = let n = length-nibbles (words_of a) in omega arith in
+pub nibbles-words_of : (a : List ℕ) → IsAssign a → nibbles (map_words a) ≡ a
+nibbles-words_of a h = ext_get_or 0 (nibbles (map_words a)) a (length-nibbles (map_words a) ∙ sym h.positions) (λ p lt.
+    let inside : p < POSITIONS = let n = length-nibbles (map_words a) in omega arith in
     let i : ℕ = p / 16 in
     let k : ℕ = p % 16 in
     let is : 16 * i + k ≡ p = omega arith in
     let small : (j : ℕ) → j < 16 → get_or a (16 * i + j) 0 < 16 =
     λ j l. let n = h.positions in let v : get_or a (16 * i + j) 0 ≤ VALUES = h.values (16 * i + j) 0 (omega arith) in omega arith in
-    get_or-nibbles (words_of a) p inside
+    get_or-nibbles (map_words a) p inside
     ∙ ap (λ w. nibble w k) (get_or-words_of a i (omega arith))
     ∙ nibble-packed 16 (λ j. get_or a (16 * i + j) 0) small k (omega arith)
     ∙ ap (λ q. get_or a q 0) is)

@@ -7,8 +7,9 @@ use Rattle.std.proofs.lemmas.Nat.{xor_shr, xor_mod, xor_lt, shl-shr, shl_whole, 
 use Rattle.std.proofs.lemmas.List.{ext_get_or}
 use Rattle.std.proofs.Math.Nat.{mod-eq_of_lt, div-eq_of_lt, pow-le-pow_right}
 use Rattle.mr_assign.specs.declared.TheConstants.{POSITIONS, CLAUSE_WORDS, VALUES}
-use Rattle.mr_assign.specs.Packing.{nibble, nibble_at, nibbles, IsPacking}
-use Rattle.mr_assign.specs.Again.{length-nibbles, get_or-nibbles}
+use Rattle.mr_assign.specs.Packing.{nibble, nibble_at, nibbles}
+use Rattle.mr_assign.specs.Private.Packing.{IsPacking}
+use Rattle.mr_assign.specs.Private.Again.{length-nibbles, get_or-nibbles}
 
 -- a nibble has four bits
 pub nibble-lt : (w k : ℕ) → nibble w k < 16

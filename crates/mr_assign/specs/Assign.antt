@@ -22,7 +22,7 @@ pub record IsConflict (a b : List ℕ) (p : ℕ) : Type 0 where
   pub differs : slice_index a p ≢ slice_index b p
 
 -- the pairs of a, and those of b at the other positions
-abbrev pub union : List ℕ → List ℕ → List ℕ
-union [] b = b
-union (x ∷ a) [] = x ∷ a
-union (x ∷ a) (y ∷ b) = (if x == 0 then y else x) ∷ union a b
+abbrev pub map_union : List ℕ → List ℕ → List ℕ
+map_union [] b = b
+map_union (x ∷ a) [] = x ∷ a
+map_union (x ∷ a) (y ∷ b) = (if x == 0 then y else x) ∷ map_union a b

@@ -1,6 +1,7 @@
-ghost use Rattle.std.specs.Prelude.{◌≡◌, ◌↔◌, ◌<◌, ◌≤◌, ℕ, Any, IsTrue, IsNone, IfSome, count_by, nat_lt, slice_index, slice_set};
-ghost use Rattle.mr_assign.specs.Assign.{IsAssign, IsPartOf, IsConflict, no_values, union};
-ghost use Rattle.mr_assign.specs.Packing.{nibbles, nibble_at, words_of, IsPacking};
+ghost use Rattle.std.specs.Prelude.{◌≡◌, ◌↔◌, ◌+◌, ◌*◌, ◌<◌, ◌≤◌, ℕ, Any, IsTrue, IsNone, IfSome, count_by, nat_lt, slice_index, slice_set, take};
+ghost use Rattle.mr_assign.specs.Assign.{IsAssign, IsPartOf, IsConflict, no_values, map_union};
+ghost use Rattle.mr_assign.specs.Packing.{nibbles, nibble_at, map_words};
+ghost use Rattle.mr_assign.specs.Private.Packing.{IsPacking};
 
 use crate::word::mask_of;
 use crate::{CLAUSE_WORDS, POSITIONS, VALUES};
@@ -15,8 +16,9 @@ pub struct Assign {
 
 impl Model for Assign {
     ghost use Rattle.std.specs.Prelude.{ℕ, List};
-    ghost use Rattle.mr_assign.specs.Packing.{nibbles, words_of, IsPacking};
-    ghost use Rattle.mr_assign.specs.Again.{words_again};
+    ghost use Rattle.mr_assign.specs.Packing.{nibbles, map_words};
+    ghost use Rattle.mr_assign.specs.Private.Packing.{IsPacking};
+    ghost use Rattle.mr_assign.specs.Private.Again.{words_again};
 
     ghost Value = { List ℕ };
 
@@ -24,12 +26,13 @@ impl Model for Assign {
 
     ghost invariant = { λ a. IsPacking a.words };
 
-    ghost inverse = { λ x. record { words = words_of x } };
+    ghost inverse = { λ x. record { words = map_words x } };
 
     ghost inverse_ok = { λ a h. words_again a.words h };
 }
 
 impl Assign {
+    /// The map without a value.
     pub fn empty() -> Assign
         ensures { result ≡ no_values }
     {
@@ -40,7 +43,7 @@ impl Assign {
 
     /// Sixteen positions a word, the least one in the lowest four bits.
     pub fn words(&self) -> [u64; CLAUSE_WORDS]
-        ensures packing { result ≡ words_of self.now }
+        ensures packing { result ≡ map_words self.now }
         ensures assign { IsAssign self.now }
     {
         self.words
@@ -68,6 +71,7 @@ impl Assign {
         nibble_at(&self.words, p)
     }
 
+    /// The map with the value `v` at the position `p`, in place of one that it may have there.
     pub fn with(&self, p: u32, v: u8) -> Assign
         requires place { p < POSITIONS }
         requires low { 0 < v }
@@ -79,6 +83,7 @@ impl Assign {
         }
     }
 
+    /// The map without a value at the position `p`.
     pub fn without(&self, p: u32) -> Assign
         requires { p < POSITIONS }
         ensures { result ≡ slice_set self.now p 0 }
@@ -106,10 +111,8 @@ impl Assign {
         ensures { result ≡ count_by (λ v. nat_lt 0 v) self.now }
     {
         let mut count = 0;
-        for p in 0..POSITIONS {
-            if nibble_at(&self.words, p) > 0 {
-                count += 1;
-            }
+        for i in 0..CLAUSE_WORDS as u32 {
+            count = count_to(&self.words, i, count);
         }
         count
     }
@@ -117,7 +120,7 @@ impl Assign {
     /// The pairs of both maps. There is none where a position has two different values.
     pub fn join(&self, other: &Assign) -> Option<Assign>
         ensures none { IsNone result ↔ ((p : ℕ) × IsConflict self.now other.now p) }
-        ensures some { IfSome result (λ both. both ≡ union self.now other.now) }
+        ensures some { IfSome result (λ both. both ≡ map_union self.now other.now) }
     {
         let mut both = *self;
         for p in 0..POSITIONS {
@@ -132,6 +135,25 @@ impl Assign {
         }
         Some(both)
     }
+}
+
+// How many positions before the word after this one have a value, from how many before it have one. A word of zeros is
+// passed.
+fn count_to(words: &[u64; CLAUSE_WORDS], i: u32, before: u32) -> u32
+    requires word { i < CLAUSE_WORDS }
+    requires before { before ≡ count_by (λ v. nat_lt 0 v) (take (16 * i) (nibbles words.now)) }
+    ensures { result ≡ count_by (λ v. nat_lt 0 v) (take (16 * i + 16) (nibbles words.now)) }
+{
+    if words[i as usize] == 0 {
+        return before;
+    }
+    let mut count = before;
+    for p in 16 * i..16 * i + 16 {
+        if nibble_at(words, p) > 0 {
+            count += 1;
+        }
+    }
+    count
 }
 
 fn nibble_at(words: &[u64; CLAUSE_WORDS], p: u32) -> u8

@@ -11,7 +11,7 @@ use Rattle.mr_nogood.specs.declared.row.Cite.TheVariants.{Nothing, Test, Slot}
 use Rattle.mr_nogood.specs.declared.row.Row.{Row}
 use Rattle.mr_nogood.specs.Follows.{in_list, Excludes}
 use Rattle.mr_nogood.proofs.Excluding.{fails_more, completes_part, rows_that_follow_exclude}
-use Rattle.mr_class.proofs.LawsOfForms.{same_field, each_has_one_form}
+use Rattle.mr_class.proofs.LawsOfForms.{each_has_one_form}
 use Rattle.mr_check.specs.Accepted.{StepFollows, IsEnd}
 use Rattle.mr_check.specs.Laws.{AcceptedLogsRefute}
 
@@ -40,6 +40,6 @@ end_excludes f steps (Slot s) c frame follows (row, is, empty) done =
 pub refutes : AcceptedLogsRefute
 refutes field bytes l accepted a size represents =
     let r = accepted.refutation in
-    let over : a.field ≡ r.frame.field = same_field a.field field size ∙ sym r.is_frame.over in
+    let over : a.field ≡ r.frame.field = size ∙ sym r.is_frame.over in
     let done = each_has_one_form r.frame a r.is_frame.frame over (subst (Represents a) (sym r.is_frame.matroid) represents) in
     end_excludes r.frame l.steps l.last done.form r.is_frame.frame r.steps r.end done.is.is_form

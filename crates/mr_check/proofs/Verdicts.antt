@@ -14,7 +14,7 @@ use Rattle.mr_check.specs.declared.checker.Accepted.{Accepted}
 use Rattle.mr_check.specs.declared.checker.CheckFault.{CheckFault}
 use Rattle.mr_check.specs.declared.checker.CheckFault.TheVariants as check
 use Rattle.mr_check.specs.Accepted.{IsRefutation, IsAcceptedLog, IsRejected}
-use Rattle.mr_check.specs.Judging.{IsFaulty, as_check_fault}
+use Rattle.mr_check.specs.Private.Judging.{IsFaulty, as_check_fault}
 use Rattle.mr_check.proofs.Sound.{refutes}
 use Rattle.mr_check.proofs.Rejections.{accepted_is_not_rejected}
 
@@ -55,6 +55,6 @@ accepts field bytes (Err check.Memory) ok rejected l log = refl
 
 -- no matrix over the field represents the log's matroid then
 pub refuted : (field : Gf) (bytes : List ℕ) (r : Result Accepted CheckFault) → IfOk r (λ a. (l : Log) × IsAcceptedLog field bytes l × (a.steps ≡ length l.steps)) →
-    IfOk r (λ a. (l : Log) → IsLogOf (order field) bytes l → HasNoRepresentation l.matroid (order field))
-refuted field bytes (Ok a) (k, is, steps) = λ l log. subst (λ (x : Log). HasNoRepresentation x.matroid (order field)) (one_log (order field) bytes k l is.log log) (refutes field bytes k is)
+    IfOk r (λ a. (l : Log) → IsLogOf (order field) bytes l → HasNoRepresentation l.matroid field)
+refuted field bytes (Ok a) (k, is, steps) = λ l log. subst (λ (x : Log). HasNoRepresentation x.matroid field) (one_log (order field) bytes k l is.log log) (refutes field bytes k is)
 refuted field bytes (Err e) ok = tt

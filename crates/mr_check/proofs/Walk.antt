@@ -3,11 +3,10 @@ use Rattle.std.proofs.Common.{◌≡◌, ◌≢◌, ◌↔◌, ℕ, zero, suc, �
 use Rattle.std.specs.Prelude.{slice_get, IsTrue, MatchResult}
 use Rattle.std.proofs.lemmas.Bool.{cases_eq, cases_lt}
 use Rattle.std.proofs.lemmas.Option.{slice_get_past}
-use Rattle.std.proofs.lemmas.List.{get_or-replicate, get_or_past}
 use Rattle.mr_field.specs.Gf.{Gf}
 use Rattle.mr_set.specs.Subsets.{choose}
 use Rattle.mr_assign.specs.Assign.{no_values, IsPartOf}
-use Rattle.mr_assign.specs.declared.TheConstants.{POSITIONS}
+use Rattle.mr_assign.proofs.Maps.{get_or-no_values}
 use Rattle.mr_frame.specs.Frame.{Framed, IsFrame, IsFrameOf}
 use Rattle.mr_frame.specs.Test.{IsAssignmentOf}
 use Rattle.mr_nogood.specs.declared.row.Cite.{Cite}
@@ -17,20 +16,13 @@ use Rattle.mr_nogood.specs.Follows.{in_list, Follows}
 use Rattle.mr_log.specs.declared.log.Log.{Log}
 use Rattle.mr_log.specs.Log.{IsLog}
 use Rattle.mr_check.specs.Accepted.{IsEnd, IsRefutation}
-use Rattle.mr_check.specs.Judging.{FollowBelow, AllFollow, IsFirstStrayStep, IsFaulty, IsSettled, IsFaultAt}
+use Rattle.mr_check.specs.Private.Judging.{FollowBelow, AllFollow, IsFirstStrayStep, IsFaulty, IsJudged, IsFaultAt}
 use Rattle.mr_check.specs.declared.checker.Accepted.{Accepted}
 use Rattle.mr_check.specs.declared.checker.CheckFault.{CheckFault}
 use Rattle.mr_check.specs.declared.checker.CheckFault.TheVariants.{Rejected, Memory}
 use Rattle.mr_log.specs.declared.fault.Why.TheVariants.{Grammar, Size, Basis, Exchange, Step, End}
 
--- no position has a value
-pub get_or-no_values : (p : ℕ) → get_or no_values p 0 ≡ 0
-get_or-no_values p = ⊎_elim
-    (λ (lt : p < POSITIONS). get_or-replicate POSITIONS p 0 0 lt)
-    (λ (ge : POSITIONS ≤ p). get_or_past no_values p 0 ge)
-    (cases_lt p POSITIONS)
-
--- so it is an assignment
+-- the map without values is an assignment
 pub nothing_is_assigned : (f : Framed) → IsAssignmentOf f no_values
 nothing_is_assigned f p some = absurd (some (get_or-no_values p))
 
@@ -92,14 +84,14 @@ line_small l j count log is few le = let sets = log.limits.sets in let most = lo
 
 -- the verdict on the steps as one on the log
 pub judged : (field : Gf) (l : Log) (f : Framed) (count : ℕ) → IsFrame f → f.matroid ≡ l.matroid → f.field ≡ field → count ≡ length l.matroid.nonbases →
-    (r : Result Accepted CheckFault) → MatchResult r (λ a. IsSettled f l.steps l.last × (a.steps ≡ length l.steps)) (IsFaultAt f l.steps l.last (9 + count)) →
+    (r : Result Accepted CheckFault) → MatchResult r (λ a. IsJudged f l.steps l.last × (a.steps ≡ length l.steps)) (IsFaultAt f l.steps l.last (9 + count)) →
     MatchResult r (λ a. IsRefutation field l × (a.steps ≡ length l.steps)) (IsFaulty field l)
 judged field l f count frame matroid over is r found = by r found
   where
     is_frame : IsFrameOf l.matroid field f
     is_frame = record { frame = frame; matroid = matroid; over = over }
 
-    by : (r : Result Accepted CheckFault) → MatchResult r (λ a. IsSettled f l.steps l.last × (a.steps ≡ length l.steps)) (IsFaultAt f l.steps l.last (9 + count)) →
+    by : (r : Result Accepted CheckFault) → MatchResult r (λ a. IsJudged f l.steps l.last × (a.steps ≡ length l.steps)) (IsFaultAt f l.steps l.last (9 + count)) →
         MatchResult r (λ a. IsRefutation field l × (a.steps ≡ length l.steps)) (IsFaulty field l)
     by (Ok a) (settled, steps) = (record { frame = f; is_frame = is_frame; steps = settled.steps_follow; end = settled.end }, steps)
     by (Err (Rejected line Grammar)) none = none

@@ -1,3 +1,3 @@
 pub mod Accepted
 pub mod Laws
-pub mod Judging
+pub mod Private

@@ -4,7 +4,7 @@ ghost use Rattle.mr_linear.specs.Representation.{HasNoRepresentation};
 ghost use Rattle.mr_log.specs.Log.{IsLogOf};
 ghost use Rattle.mr_log.specs.declared.log.Log.{Log as LogValue};
 ghost use Rattle.mr_check.specs.Accepted.{IsAcceptedLog, IsRejected};
-ghost use Rattle.mr_check.specs.Judging.{as_check_fault};
+ghost use Rattle.mr_check.specs.Private.Judging.{as_check_fault};
 
 use crate::judge::judge;
 use mr_field::Field;
@@ -36,7 +36,7 @@ pub fn check(alloc: Global, bytes: &[u8], field: Field) -> Result<Accepted, Chec
     ensures only { (l : LogValue) → IsAcceptedLog field bytes.now l → MatchResult result (λ a. a.steps ≡ length l.steps) (λ e. e ≡ CheckFault.Memory) }
 
     // Then no matrix over the field represents the log's matroid.
-    ensures refutes { IfOk result (λ _. (l : LogValue) → IsLogOf (order field) bytes.now l → HasNoRepresentation l.matroid (order field)) }
+    ensures refutes { IfOk result (λ _. (l : LogValue) → IsLogOf (order field) bytes.now l → HasNoRepresentation l.matroid field) }
 
     // A rejection names the first fault.
     ensures rejected { IfErr result (IsRejected field bytes.now) }

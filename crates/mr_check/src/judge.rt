@@ -1,7 +1,7 @@
 ghost use Rattle.std.specs.Prelude.{◌≡◌, ◌+◌, ◌<◌, ◌^◌, MatchResult, length};
 ghost use Rattle.mr_log.specs.Log.{IsLog};
 ghost use Rattle.mr_check.specs.Accepted.{IsRefutation};
-ghost use Rattle.mr_check.specs.Judging.{IsFaulty, IsFaultAt, IsSettled};
+ghost use Rattle.mr_check.specs.Private.Judging.{IsFaulty, IsFaultAt, IsJudged};
 
 use crate::steps::{first_stray, is_end};
 use crate::{Accepted, CheckFault};
@@ -32,7 +32,7 @@ fn verdict(
     first_line: u32,
 ) -> Result<Accepted, CheckFault>
     requires { first_line + length steps.now < 2 ^ 32 }
-    ensures { MatchResult result (λ a. IsSettled frame.now steps.now last.now × (a.steps ≡ length steps.now)) (IsFaultAt frame.now steps.now last.now first_line) }
+    ensures { MatchResult result (λ a. IsJudged frame.now steps.now last.now × (a.steps ≡ length steps.now)) (IsFaultAt frame.now steps.now last.now first_line) }
 {
     match first_stray(frame, steps) {
         Some(j) => Err(CheckFault::Rejected {

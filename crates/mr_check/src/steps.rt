@@ -1,6 +1,6 @@
 ghost use Rattle.std.specs.Prelude.{◌≡◌, ◌+◌, ◌<◌, ◌≤◌, ◌^◌, ◌↔◌, ℕ, IsTrue, MatchOption, length};
 ghost use Rattle.mr_check.specs.Accepted.{StepFollows, IsEnd};
-ghost use Rattle.mr_check.specs.Judging.{IsFirstStrayStep, AllFollow};
+ghost use Rattle.mr_check.specs.Private.Judging.{IsFirstStrayStep, AllFollow};
 
 use mr_assign::Assign;
 use mr_frame::Frame;

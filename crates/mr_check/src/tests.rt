@@ -1,5 +1,3 @@
-ghost use Rattle.std.specs.Prelude.{◌<◌, length};
-
 use crate::{Accepted, CheckFault, check};
 use mr_field::Field;
 use mr_log::Why;

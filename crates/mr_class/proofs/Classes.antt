@@ -28,7 +28,7 @@ use Rattle.mr_linear.proofs.Undo.{lead-grid, shape-sym}
 use Rattle.mr_linear.proofs.Unique.{identity-standard}
 use Rattle.mr_frame.specs.Frame.{IsExchange}
 use Rattle.mr_class.specs.Forms.{HasOnes}
-use Rattle.mr_class.specs.Scaling.{IsScaledOn}
+use Rattle.mr_class.specs.Private.Scaling.{IsScaledOn}
 use Rattle.mr_class.proofs.Scaling.{Scales}
 use Rattle.mr_class.proofs.Greedy.{first-forest}
 use Rattle.mr_class.proofs.Form.{FormOf, form_of}

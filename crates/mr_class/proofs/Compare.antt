@@ -11,7 +11,7 @@ use Rattle.mr_set.proofs.Members.{cmp_from_less}
 use Rattle.mr_linear.specs.Columns.{Entries}
 use Rattle.mr_linear.specs.Matrix.{Grid, IsGrid, height, entry, grid_cmp}
 use Rattle.mr_linear.proofs.Grids.{Same, SameShape}
-use Rattle.mr_graph.specs.Forest.{IsBefore}
+use Rattle.mr_graph.specs.Forest.{IsEarlierPlace}
 
 -- at the first place where they differ, row after row and in a row by column, a has the smaller number
 pub record IsSmaller (r n : ℕ) (a b : Entries) : Type 0 where
@@ -19,7 +19,7 @@ pub record IsSmaller (r n : ℕ) (a b : Entries) : Type 0 where
   pub col : ℕ
   pub row_in_range : row < r
   pub col_in_range : col < n
-  pub before : (i j : ℕ) → i < r → j < n → IsBefore i j row col → a i j ≡ b i j
+  pub before : (i j : ℕ) → i < r → j < n → IsEarlierPlace i j row col → a i j ≡ b i j
   pub less : a row col < b row col
 
 -- equal beginnings decide nothing

@@ -7,7 +7,7 @@ use Rattle.mr_field.proofs.Laws.{one-ne}
 use Rattle.mr_linear.specs.Columns.{Entries}
 use Rattle.mr_graph.specs.declared.edge.Edge.{Edge}
 use Rattle.mr_graph.specs.Graph.{Vertex, row, col, Walk, stay}
-use Rattle.mr_graph.specs.Forest.{HasEdge, IsBefore, HasEdgeBefore, ClosesCycle, IsFirstForest}
+use Rattle.mr_graph.specs.Forest.{HasEdge, IsEarlierPlace, HasEdgeBefore, ClosesCycle, IsFirstForest}
 use Rattle.mr_graph.proofs.Walks.{walk-more}
 use Rattle.mr_graph.proofs.Parts.{And}
 use Rattle.mr_graph.proofs.Edges.{not_before_itself, before_more, before_cases, here_before_next, HasEdge-push, HasEdge-push_old, HasEdge-push_new, HasEdge-get_or}
@@ -20,8 +20,8 @@ pub record Grown (f : Gf) (a : Entries) (G : ℕ → ℕ → Type 0) (i e : ℕ)
   pub edges : List Edge
   pub label : Vertex → ℕ
   pub rising : IsRising edges
-  pub before : (x y : ℕ) → HasEdge edges x y → IsBefore x y i e
-  pub taken : (x y : ℕ) → IsBefore x y i e → HasEdge edges x y ↔ (G x y × ¬ (ClosesCycle (HasEdgeBefore edges x y) x y))
+  pub before : (x y : ℕ) → HasEdge edges x y → IsEarlierPlace x y i e
+  pub taken : (x y : ℕ) → IsEarlierPlace x y i e → HasEdge edges x y ↔ (G x y × ¬ (ClosesCycle (HasEdgeBefore edges x y) x y))
   pub labelled : IsLabelled (HasEdge edges) label
   pub scales : Scales f a (HasEdge edges)
 
@@ -39,7 +39,7 @@ first_joined (col i) (row k) h = absurd (omega arith)
 first_joined (col i) (col k) h = let e : i ≡ k = omega arith in subst (λ z. Walk (HasEdge []) (col i) (col z)) e stay
 
 -- no place is before the first
-none_before : (x y : ℕ) → IsBefore x y 0 0 → ⊥
+none_before : (x y : ℕ) → IsEarlierPlace x y 0 0 → ⊥
 none_before x y b = ⊎_elim (λ (p : x < 0). omega arith) (λ (p : (x ≡ 0) × (y < 0)). omega (arith, p.1)) b
 
 -- no place was seen
@@ -62,7 +62,7 @@ module _ (f : Gf) (a : Entries) (G : ℕ → ℕ → Type 0) where
     label = h.label;
     rising = h.rising;
     before = λ x y t. before_more x y i e (h.before x y t);
-    taken = λ x y b. ⊎_elim (λ (p : IsBefore x y i e). h.taken x y p)
+    taken = λ x y b. ⊎_elim (λ (p : IsEarlierPlace x y i e). h.taken x y p)
         (λ (p : (x ≡ i) × (y ≡ e)). rw (p.0, p.1) ((λ t. absurd (not_before_itself i e (h.before i e t))), (λ q. absurd (out q))))
         (before_cases x y i e b);
     labelled = h.labelled;
@@ -74,9 +74,9 @@ module _ (f : Gf) (a : Entries) (G : ℕ → ℕ → Type 0) where
   take_edge i e h ge ne apart = record {
     edges = edges;
     label = merged h.label i e;
-    rising = all_pairs_push (λ y z. IsBefore y.row y.col z.row z.col) h.edges new h.rising (λ k d lt. h.before (get_or h.edges k d).row (get_or h.edges k d).col (HasEdge-get_or h.edges k d lt));
+    rising = all_pairs_push (λ y z. IsEarlierPlace y.row y.col z.row z.col) h.edges new h.rising (λ k d lt. h.before (get_or h.edges k d).row (get_or h.edges k d).col (HasEdge-get_or h.edges k d lt));
     before = λ x y t. ⊎_elim (λ (p : HasEdge h.edges x y). before_more x y i e (h.before x y p)) (λ (p : (x ≡ i) × (y ≡ e)). rw (p.0, p.1) (here_before_next i e)) (HasEdge-push h.edges new x y t);
-    taken = λ x y b. ⊎_elim (λ (p : IsBefore x y i e). old x y p) (λ (p : (x ≡ i) × (y ≡ e)). rw (p.0, p.1) here) (before_cases x y i e b);
+    taken = λ x y b. ⊎_elim (λ (p : IsEarlierPlace x y i e). old x y p) (λ (p : (x ≡ i) × (y ≡ e)). rw (p.0, p.1) here) (before_cases x y i e b);
     labelled = record {
       along = λ x y t. (merge (HasEdge h.edges) h.label i e h.labelled).along x y (HasEdge-push h.edges new x y t);
       joined = λ u v same. walk-more more ((merge (HasEdge h.edges) h.label i e h.labelled).joined u v same);
@@ -94,20 +94,20 @@ module _ (f : Gf) (a : Entries) (G : ℕ → ℕ → Type 0) where
       more x y t = ⊎_elim (λ (p : HasEdge h.edges x y). HasEdge-push_old h.edges new x y p) (λ (p : (x ≡ i) × (y ≡ e)). rw (p.0, p.1) (HasEdge-push_new h.edges new)) t
 
       -- before a place that was seen stand the old edges alone
-      fewer : (x y x' y' : ℕ) → (IsBefore x y i e) ⊎ ((x ≡ i) × (y ≡ e)) → HasEdgeBefore edges x y x' y' → HasEdgeBefore h.edges x y x' y'
+      fewer : (x y x' y' : ℕ) → (IsEarlierPlace x y i e) ⊎ ((x ≡ i) × (y ≡ e)) → HasEdgeBefore edges x y x' y' → HasEdgeBefore h.edges x y x' y'
       fewer x y x' y' b q = ⊎_elim
           (λ (p : HasEdge h.edges x' y'). (p, q.1))
           (λ (p : (x' ≡ i) × (y' ≡ e)). absurd (⊎_elim
-          (λ (l : IsBefore x y i e). both x y l (rw (p.0, p.1) at q.1))
+          (λ (l : IsEarlierPlace x y i e). both x y l (rw (p.0, p.1) at q.1))
           (λ (l : (x ≡ i) × (y ≡ e)). not_before_itself i e (rw (p.0, p.1, l.0, l.1) at q.1)) b))
           (HasEdge-push h.edges new x' y' q.0)
         where
-          both : (x y : ℕ) → IsBefore x y i e → IsBefore i e x y → ⊥
+          both : (x y : ℕ) → IsEarlierPlace x y i e → IsEarlierPlace i e x y → ⊥
           both x y p q = ⊎_elim
               (λ (l : x < i). ⊎_elim (λ (m : i < x). omega arith) (λ (m : (i ≡ x) × (e < y)). omega (arith, m.0)) q)
               (λ (l : (x ≡ i) × (y < e)). ⊎_elim (λ (m : i < x). omega (arith, l.0)) (λ (m : (i ≡ x) × (e < y)). omega (arith, l.1, m.1)) q) p
 
-      old : (x y : ℕ) → IsBefore x y i e → HasEdge edges x y ↔ (G x y × ¬ (ClosesCycle (HasEdgeBefore edges x y) x y))
+      old : (x y : ℕ) → IsEarlierPlace x y i e → HasEdge edges x y ↔ (G x y × ¬ (ClosesCycle (HasEdgeBefore edges x y) x y))
       old x y b = (
         (λ t. ⊎_elim
             (λ (p : HasEdge h.edges x y). let q = (h.taken x y b).0 p in (q.0, λ w. q.1 (walk-more (λ x' y' z. fewer x y x' y' (inl b) z) w)))

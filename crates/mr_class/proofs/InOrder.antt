@@ -9,7 +9,7 @@ use Rattle.std.proofs.lemmas.Option.{get_or_from_slice_get, slice_get_within, sl
 use Rattle.mr_set.specs.Subsets.{list_cmp}
 use Rattle.mr_assign.specs.declared.TheConstants.{POSITIONS}
 use Rattle.mr_graph.specs.declared.edge.Edge.{Edge}
-use Rattle.mr_graph.specs.Forest.{HasEdge, IsBefore}
+use Rattle.mr_graph.specs.Forest.{HasEdge, IsEarlierPlace}
 use Rattle.mr_graph.proofs.Edges.{HasEdge-or_not, HasEdge-get_or, HasEdge-place}
 use Rattle.mr_linear.specs.Matrix.{Grid, entry, grid_cmp}
 use Rattle.mr_linear.proofs.Grids.{Same, same_grids}
@@ -24,7 +24,7 @@ use Rattle.mr_class.proofs.Compare.{IsSmaller, cmp_first, smaller-less, compare}
 use Rattle.mr_class.proofs.Reading.{few, assignments_same}
 
 -- the first different number of two lists decides their order
-less_at : (c d : List ℕ) (p : ℕ) → p < length c → p < length d → ((k : ℕ) → k < p → get_or c k 0 ≡ get_or d k 0) → get_or c p 0 < get_or d p 0 → list_cmp c d ≡ Less
+pub less_at : (c d : List ℕ) (p : ℕ) → p < length c → p < length d → ((k : ℕ) → k < p → get_or c k 0 ≡ get_or d k 0) → get_or c p 0 < get_or d p 0 → list_cmp c d ≡ Less
 less_at c d p l m same lt = subst (λ (x : List ℕ). list_cmp x d ≡ Less) (append-nil c) (subst (λ (y : List ℕ). list_cmp (c ++ []) y ≡ Less) (append-nil d) (cmp_first c d [] [] p l m same lt))
 
 module _ (f : Framed) (frame : IsFrame f) (c d : List ℕ) (g h : Grid) (here : IsForm f c) (there : IsForm f d) (fc : IsFilledBy f c g) (fd : IsFilledBy f d h) where
@@ -44,10 +44,10 @@ module _ (f : Framed) (frame : IsFrame f) (c d : List ℕ) (g h : Grid) (here : 
           let y : Edge = get_or f.places k x in
           let at : slice_get f.places k ≡ Some y = slice_get-get_or f.places k x (omega arith) in
           let edge : IsExchange f.matroid f.basis y.row y.col = place_exchange f frame y.row y.col (HasEdge-get_or f.places k x (omega arith)) in
-          let before : IsBefore y.row y.col (get_or f.places p x).row (get_or f.places p x).col = places-rising f frame k p x lt inside in
+          let before : IsEarlierPlace y.row y.col (get_or f.places p x).row (get_or f.places p x).col = places-rising f frame k p x lt inside in
           let this : get_or f.places p x ≡ x = get_or_from_slice_get f.places p x x is in
-          let there' : IsBefore y.row y.col s.row s.col =
-          subst (λ (i : ℕ). IsBefore y.row y.col i s.col) row (subst (λ (j : ℕ). IsBefore y.row y.col x.row j) col (subst (λ (z : Edge). IsBefore y.row y.col z.row z.col) this before)) in
+          let there' : IsEarlierPlace y.row y.col s.row s.col =
+          subst (λ (i : ℕ). IsEarlierPlace y.row y.col i s.col) row (subst (λ (j : ℕ). IsEarlierPlace y.row y.col x.row j) col (subst (λ (z : Edge). IsEarlierPlace y.row y.col z.row z.col) this before)) in
           sym (fc.free k y at) ∙ s.before y.row y.col edge.row edge.element there' ∙ fd.free k y at
 
   -- so the form of the smaller matrix comes first

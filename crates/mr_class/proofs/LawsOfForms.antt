@@ -1,6 +1,5 @@
 -- Each representation has one form, forms are members, and members come from one form.
-use Rattle.std.proofs.Common.{ℕ, ◌≡◌, List, eqb, cond, refl, sym, ap, subst, ◌∙◌}
-use Rattle.mr_field.specs.Gf.{Gf, gf2, gf3, gf4, gf5, gf7, gf8, gf9, order}
+use Rattle.std.proofs.Common.{ℕ, ◌≡◌, List, sym, subst, ◌∙◌}
 use Rattle.mr_linear.specs.Matrix.{Grid}
 use Rattle.mr_linear.specs.Operations.{AreEquivalent}
 use Rattle.mr_linear.specs.Representation.{Represents, IsChosen}
@@ -11,29 +10,10 @@ use Rattle.mr_frame.specs.Frame.{Framed, IsFrame}
 use Rattle.mr_frame.specs.Test.{IsFilledBy}
 use Rattle.mr_class.specs.Forms.{HasOnes, IsForm, IsFormOf}
 use Rattle.mr_class.specs.Laws.{EachRepresentationHasOneForm, FormsAreMembers, MembersComeFromOneForm, ChosenMatricesHaveOnes}
-use Rattle.mr_class.specs.Scaling.{IsScaledOn}
+use Rattle.mr_class.specs.Private.Scaling.{IsScaledOn}
 use Rattle.mr_class.proofs.Classes.{equivalence-trans, scaled, scaled-same, ones-chosen}
 use Rattle.mr_class.proofs.Failing.{represents-from_none}
 use Rattle.mr_class.proofs.Reading.{reading, read_off, filled-ones, assignments_same, reading-filled, reading-form}
-
--- a field with so many elements
-field_of : ℕ → Gf
-field_of q = cond (eqb q 2) gf2 (cond (eqb q 3) gf3 (cond (eqb q 4) gf4 (cond (eqb q 5) gf5 (cond (eqb q 7) gf7 (cond (eqb q 8) gf8 gf9)))))
-
--- it is the only one
-field_of-order : (f : Gf) → field_of (order f) ≡ f
-unfolding field_of
-field_of-order gf2 = refl
-field_of-order gf3 = refl
-field_of-order gf4 = refl
-field_of-order gf5 = refl
-field_of-order gf7 = refl
-field_of-order gf8 = refl
-field_of-order gf9 = refl
-
--- so fields with as many elements are one
-pub same_field : (f g : Gf) → order f ≡ order g → f ≡ g
-same_field f g same = sym (field_of-order f) ∙ ap field_of same ∙ field_of-order g
 
 -- each representation has one form
 pub each_has_one_form : EachRepresentationHasOneForm
@@ -72,7 +52,7 @@ each_has_one_form f a frame field rep = record {
 -- the matrix of a form is a member
 pub forms_are_members : FormsAreMembers
 forms_are_members f c g frame form filled = record {
-  field = ap order filled.field;
+  field = filled.field;
   chosen = ones-chosen f.matroid f.basis frame.basis f.forest frame.forest g rep filled.identity (filled-ones f frame c g filled);
   represents = rep;
 }
@@ -104,7 +84,7 @@ members_come_from_one_form f g frame member = record {
 }
   where
     field : g.field ≡ f.field
-    field = same_field g.field f.field member.field
+    field = member.field
 
     is : IsScaledOn f.matroid f.basis f.forest g
     is = record {

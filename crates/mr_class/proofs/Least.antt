@@ -8,7 +8,7 @@ use Rattle.mr_linear.proofs.Standard.{IsIdentityAt}
 use Rattle.mr_linear.proofs.Operations.{SameZeros}
 use Rattle.mr_linear.proofs.Square.{IsBasisOf}
 use Rattle.mr_graph.specs.declared.edge.Edge.{Edge}
-use Rattle.mr_graph.specs.Forest.{HasEdge, IsBefore, IsFirstForest}
+use Rattle.mr_graph.specs.Forest.{HasEdge, IsEarlierPlace, IsFirstForest}
 use Rattle.mr_graph.proofs.Edges.{HasEdge-or_not}
 use Rattle.mr_class.proofs.Compare.{IsSmaller}
 use Rattle.mr_class.proofs.Unique.{agree-at}
@@ -34,7 +34,7 @@ module _ (f : Gf) (r n : ℕ) (b : ℕ → ℕ) (basis : ℕ → Bool) (G : ℕ 
 
   -- the two agree on the forest's edges before a place
   abbrev Agree : ℕ → ℕ → Type 0
-  Agree i j = (i' j' : ℕ) → HasEdge forest i' j' → i' < r → j' < n → IsBefore i' j' i j → a i' j' ≡ c i' j'
+  Agree i j = (i' j' : ℕ) → HasEdge forest i' j' → i' < r → j' < n → IsEarlierPlace i' j' i j → a i' j' ≡ c i' j'
 
   -- at an edge they agree then, or it is one of the forest
   at_edge : (i j : ℕ) → i < r → j < n → G i j → Agree i j → (a i j ≡ c i j) ⊎ HasEdge forest i j

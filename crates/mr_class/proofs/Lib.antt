@@ -10,6 +10,11 @@ pub mod Failing
 pub mod Reading
 pub mod LawsOfForms
 pub mod FirstBasis
+pub mod OneOfEach
+pub mod InsertedMember
+pub mod Words
+pub mod AllAnswers
+pub mod SomeFrame
 pub mod InOrder
 pub mod Steps
 pub mod Sequence

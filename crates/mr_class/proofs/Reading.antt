@@ -3,13 +3,14 @@ use Rattle.std.proofs.Common.{ℕ, ◌+◌, ◌<◌, ◌≤◌, ◌≡◌, ◌�
 use Rattle.std.specs.Prelude.{Some, slice_get}
 use Rattle.std.proofs.lemmas.Bool.{cases_eq, cases_lt}
 use Rattle.std.proofs.lemmas.Grind.{same_number_lists}
-use Rattle.std.proofs.lemmas.List.{get_or_past, get_or-replicate, length-replicate, get_or_default}
+use Rattle.std.proofs.lemmas.List.{get_or_past, length-replicate, get_or_default}
 use Rattle.std.proofs.lemmas.Option.{same_Some, get_or_from_slice_get, slice_get_within, slice_get-get_or}
 use Rattle.mr_field.specs.Gf.{Gf, gf2, order}
 use Rattle.mr_field.proofs.Laws.{order_pos}
 use Rattle.mr_field.proofs.Lookups.{order-le}
 use Rattle.mr_assign.specs.declared.TheConstants.{POSITIONS, VALUES}
 use Rattle.mr_assign.specs.Assign.{IsAssign, no_values}
+use Rattle.mr_assign.proofs.Maps.{get_or-no_values}
 use Rattle.mr_graph.specs.declared.edge.Edge.{Edge}
 use Rattle.mr_graph.specs.Forest.{HasEdge}
 use Rattle.mr_graph.proofs.Edges.{HasEdge-or_not}
@@ -22,15 +23,8 @@ use Rattle.mr_frame.proofs.Counted.{few_edges}
 use Rattle.mr_frame.proofs.Outside.{HasEdge-slice_get}
 use Rattle.mr_frame.proofs.Uniqueness.{two_or_more, place_exchange}
 use Rattle.mr_class.specs.Forms.{HasOnes, IsForm}
-use Rattle.mr_class.specs.Scaling.{IsReadTo, IsScaledOn}
+use Rattle.mr_class.specs.Private.Scaling.{IsReadTo, IsScaledOn}
 use Rattle.mr_class.proofs.Failing.{none_fails}
-
--- no position has a value in the empty map
-no_value : (p : ℕ) → get_or no_values p 0 ≡ 0
-no_value p = ⊎_elim
-    (λ (lt : p < POSITIONS). get_or-replicate POSITIONS p 0 0 lt)
-    (λ (le : POSITIONS ≤ p). get_or_past no_values p 0 (let size : length no_values ≡ POSITIONS = length-replicate {A = ℕ} POSITIONS 0 in omega arith))
-    (cases_lt p POSITIONS)
 
 -- the edge of a position, where there is one
 abbrev pub edge_at : List Edge → ℕ → Edge
@@ -181,7 +175,7 @@ module _ (f : Framed) (frame : IsFrame f) where
         map = reading-map;
         assignment = reading-assignment;
         full = reading-full;
-        contains = λ p some. absurd (some (no_value p));
+        contains = λ p some. absurd (some (get_or-no_values p));
         holds = none_fails f frame c g reading-filled is.represents;
       }
 
@@ -190,7 +184,7 @@ pub read_none : (places : List Edge) (g : Grid) → IsReadTo places g 0 no_value
 read_none places g = record {
   size = length-replicate {A = ℕ} POSITIONS 0;
   here = λ p x lt is. absurd (omega arith);
-  past = λ p le. no_value p;
+  past = λ p le. get_or-no_values p;
 }
 
 -- one more free position

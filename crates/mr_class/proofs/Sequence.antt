@@ -12,14 +12,14 @@ use Rattle.mr_graph.proofs.Ordering.{free_end_of-order}
 use Rattle.mr_linear.specs.declared.operation.RowOp.{RowOp}
 use Rattle.mr_linear.specs.Matrix.{Grid, AreIndependent}
 use Rattle.mr_linear.specs.Operations.{Leads}
-use Rattle.mr_linear.specs.Reduction.{Continues}
+use Rattle.mr_linear.specs.Private.Reduction.{Continues}
 use Rattle.mr_linear.specs.Representation.{Represents, HasIdentity}
 use Rattle.mr_linear.proofs.LawsOfMatrices.{basis-independent, equivalent-represents}
 use Rattle.mr_linear.proofs.Leads.{leads-append, leads-shape}
 use Rattle.mr_frame.specs.Frame.{Framed, IsExchange, IsFrame}
 use Rattle.mr_frame.specs.Test.{IsFilledBy}
 use Rattle.mr_class.specs.Forms.{IsForm}
-use Rattle.mr_class.specs.Scaling.{IsScaledOn, IsNextEdge, IsReadTo}
+use Rattle.mr_class.specs.Private.Scaling.{IsScaledOn, IsNextEdge, IsReadTo}
 use Rattle.mr_class.proofs.Reading.{reading-filled, reading-form}
 
 -- the first edges of a list are among them

@@ -18,22 +18,22 @@ use Rattle.mr_linear.specs.declared.operation.RowOp.{RowOp}
 use Rattle.mr_linear.specs.declared.operation.RowOp.TheVariants.{ScaleRow, ScaleCol}
 use Rattle.mr_linear.specs.Columns.{Entries}
 use Rattle.mr_linear.specs.Matrix.{Grid, height, entry}
-use Rattle.mr_linear.specs.Operations.{IsAllowed, entries_after, after}
+use Rattle.mr_linear.specs.Operations.{IsAllowedOperation, entries_after, matrix_after}
 use Rattle.mr_linear.specs.Representation.{Represents}
 use Rattle.mr_linear.proofs.Grids.{Same, height-grid_of, entry-grid_of, entry-lt}
 use Rattle.mr_linear.proofs.Places.{place-lt}
 use Rattle.mr_linear.proofs.LawsOfMatrices.{equivalent-represents}
 use Rattle.mr_linear.proofs.Exchanges.{entry-exchange}
 use Rattle.mr_frame.specs.Frame.{IsExchange}
-use Rattle.mr_class.specs.Scaling.{IsScaledOn, IsNextEdge}
+use Rattle.mr_class.specs.Private.Scaling.{IsScaledOn, IsNextEdge}
 use Rattle.mr_class.proofs.Classes.{basis-columns, edge-inside}
 
 -- an operation leaves a representation
-after-represents : (m : Presentation) (w : Grid) (op : RowOp) → Represents w m → IsAllowed w op → Represents (after w op) m
-after-represents m w op rep allowed = equivalent-represents m w (after w op) rep (op ∷ [], (allowed, refl))
+after-represents : (m : Presentation) (w : Grid) (op : RowOp) → Represents w m → IsAllowedOperation w op → Represents (matrix_after w op) m
+after-represents m w op rep allowed = equivalent-represents m w (matrix_after w op) rep (op ∷ [], (allowed, refl))
 
--- the entries after an operation
-after-entries : (w : Grid) (op : RowOp) → Same (height w) w.cols (entry (after w op)) (entries_after w.field op (entry w))
+-- the entries matrix_after an operation
+after-entries : (w : Grid) (op : RowOp) → Same (height w) w.cols (entry (matrix_after w op)) (entries_after w.field op (entry w))
 after-entries w op = entry-grid_of w.field (height w) w.cols (entries_after w.field op (entry w))
 
 -- a representation with the identity at the basis, and an edge whose entry is to become 1
@@ -79,21 +79,21 @@ module _ (m : Presentation) (b : List ℕ) (first : IsFirstBasis m b) (taken : L
   basis-ne k i e lt edge same = edge.outside (subst (Contains b) same (Contains-get_or b k 0 lt))
 
   -- the column's scaling
-  pub col-allowed : IsAllowed w (ScaleCol x.col by)
+  pub col-allowed : IsAllowedOperation w (ScaleCol x.col by)
   col-allowed = ((inside x.row x.col next.edge).1, by-lt, by-ne)
 
   -- the entries in other columns stay
-  col-other : (i j : ℕ) → i < height w → j < w.cols → j ≢ x.col → entry (after w (ScaleCol x.col by)) i j ≡ entry w i j
+  col-other : (i j : ℕ) → i < height w → j < w.cols → j ≢ x.col → entry (matrix_after w (ScaleCol x.col by)) i j ≡ entry w i j
   col-other i j l k other = after-entries w (ScaleCol x.col by) i j l k ∙ ap (λ t. cond t (mul w.field by (entry w i j)) (entry w i j)) (ne_eqb j x.col other)
 
   -- the edge's entry is 1
-  col-one : entry (after w (ScaleCol x.col by)) x.row x.col ≡ 1
+  col-one : entry (matrix_after w (ScaleCol x.col by)) x.row x.col ≡ 1
   col-one =
       after-entries w (ScaleCol x.col by) x.row x.col (inside x.row x.col next.edge).0 (inside x.row x.col next.edge).1 ∙
       ap (λ t. cond t (mul w.field by (entry w x.row x.col)) (entry w x.row x.col)) (eq-eqb x.col x.col refl) ∙ ap (mul w.field by) (sym value) ∙ one
 
   -- where no taken edge ends at the column the identity and the old ones stay
-  pub col-scaled : (Touches taken (col x.col) → ⊥) → IsScaledOn m b (taken ++ x ∷ []) (after w (ScaleCol x.col by))
+  pub col-scaled : (Touches taken (col x.col) → ⊥) → IsScaledOn m b (taken ++ x ∷ []) (matrix_after w (ScaleCol x.col by))
   col-scaled free = record {
     represents = after-represents m w (ScaleCol x.col by) is.represents col-allowed;
     identity = λ i k l n.
@@ -109,29 +109,29 @@ module _ (m : Presentation) (b : List ℕ) (first : IsFirstBasis m b) (taken : L
   }
 
   -- the row's scaling
-  pub row-allowed : IsAllowed w (ScaleRow x.row by)
+  pub row-allowed : IsAllowedOperation w (ScaleRow x.row by)
   row-allowed = ((inside x.row x.col next.edge).0, by-lt, by-ne)
 
   -- then that of the column of the row's element of the basis
-  pub back-allowed : IsAllowed (after w (ScaleRow x.row by)) (ScaleCol (get_or b x.row 0) v)
+  pub back-allowed : IsAllowedOperation (matrix_after w (ScaleRow x.row by)) (ScaleCol (get_or b x.row 0) v)
   back-allowed = (place-lt w.cols (height w) b columns x.row (inside x.row x.col next.edge).0, value-lt m b first taken x w is next v value, value-ne m b first taken x w is next v value)
 
-  -- the matrix after both
+  -- the matrix matrix_after both
   abbrev pub end : Grid
-  end = after (after w (ScaleRow x.row by)) (ScaleCol (get_or b x.row 0) v)
+  end = matrix_after (matrix_after w (ScaleRow x.row by)) (ScaleCol (get_or b x.row 0) v)
 
   -- the first leaves the number of rows
-  mid-height : height (after w (ScaleRow x.row by)) ≡ height w
+  mid-height : height (matrix_after w (ScaleRow x.row by)) ≡ height w
   mid-height = height-grid_of w.field (height w) w.cols (entries_after w.field (ScaleRow x.row by) (entry w))
 
-  -- the entries after the first
+  -- the entries matrix_after the first
   abbrev rowed : Entries
   rowed i j = cond (eqb i x.row) (mul w.field by (entry w i j)) (entry w i j)
 
-  -- the entries after both
+  -- the entries matrix_after both
   both-entries : (i j : ℕ) → i < height w → j < w.cols → entry end i j ≡ cond (eqb j (get_or b x.row 0)) (mul w.field v (rowed i j)) (rowed i j)
   both-entries i j l k =
-      after-entries (after w (ScaleRow x.row by)) (ScaleCol (get_or b x.row 0) v) i j (subst (λ n. i < n) (sym mid-height) l) k ∙
+      after-entries (matrix_after w (ScaleRow x.row by)) (ScaleCol (get_or b x.row 0) v) i j (subst (λ n. i < n) (sym mid-height) l) k ∙
       ap (λ (z : ℕ). cond (eqb j (get_or b x.row 0)) (mul w.field v z) z) (after-entries w (ScaleRow x.row by) i j l k)
 
   -- the entries in other rows and columns stay
@@ -163,9 +163,9 @@ module _ (m : Presentation) (b : List ℕ) (first : IsFirstBasis m b) (taken : L
   -- where no taken edge ends at the row the identity comes back and the old ones stay
   pub row-scaled : (Touches taken (row x.row) → ⊥) → IsScaledOn m b (taken ++ x ∷ []) end
   row-scaled free = record {
-    represents = after-represents m (after w (ScaleRow x.row by)) (ScaleCol (get_or b x.row 0) v) (after-represents m w (ScaleRow x.row by) is.represents row-allowed) back-allowed;
+    represents = after-represents m (matrix_after w (ScaleRow x.row by)) (ScaleCol (get_or b x.row 0) v) (after-represents m w (ScaleRow x.row by) is.represents row-allowed) back-allowed;
     identity = λ i k l n.
-        let lies : i < height w = subst (λ j. i < j) (height-grid_of w.field (height (after w (ScaleRow x.row by))) w.cols (entries_after w.field (ScaleCol (get_or b x.row 0) v) (entry (after w (ScaleRow x.row by)))) ∙ mid-height) l in
+        let lies : i < height w = subst (λ j. i < j) (height-grid_of w.field (height (matrix_after w (ScaleRow x.row by))) w.cols (entries_after w.field (ScaleCol (get_or b x.row 0) v) (entry (matrix_after w (ScaleRow x.row by)))) ∙ mid-height) l in
         identity i k lies n;
     ones = λ i e h. ⊎_elim
         (λ (old : HasEdge taken i e).

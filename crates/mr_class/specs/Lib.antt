@@ -1,3 +1,3 @@
 pub mod Forms
 pub mod Laws
-pub mod Scaling
+pub mod Private

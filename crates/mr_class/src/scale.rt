@@ -1,19 +1,18 @@
-ghost use Rattle.std.specs.Prelude.{◌≡◌, ◌↔◌, ◌<◌, ℕ, [], ◌∷◌, ◌++◌, IsTrue, IfOk, OnOk, length};
-ghost use Rattle.mr_graph.specs.Graph.{col};
+ghost use Rattle.std.specs.Prelude.{◌≡◌, ◌<◌, ℕ, [], ◌∷◌, ◌++◌, IfOk, OnOk, length};
 ghost use Rattle.mr_graph.specs.Forest.{HasEdge};
-ghost use Rattle.mr_graph.specs.Order.{Touches, IsForestOrder};
+ghost use Rattle.mr_graph.specs.Order.{IsForestOrder};
 ghost use Rattle.mr_linear.specs.Matrix.{Grid};
-ghost use Rattle.mr_linear.specs.Operations.{IsAllowed, Leads, after};
-ghost use Rattle.mr_linear.specs.Reduction.{Continues};
+ghost use Rattle.mr_linear.specs.Operations.{IsAllowedOperation, Leads, matrix_after};
+ghost use Rattle.mr_linear.specs.Private.Reduction.{Continues};
 ghost use Rattle.mr_linear.specs.Representation.{Represents};
 ghost use Rattle.mr_frame.specs.Frame.{IsExchange};
 ghost use Rattle.mr_frame.specs.Test.{IsFilledBy};
 ghost use Rattle.mr_class.specs.Forms.{IsForm};
-ghost use Rattle.mr_class.specs.Scaling.{IsNextEdge, IsReadTo, IsScaledOn};
+ghost use Rattle.mr_class.specs.Private.Scaling.{IsNextEdge, IsReadTo, IsScaledOn};
 
 use mr_assign::Assign;
 use mr_frame::Frame;
-use mr_graph::Edge;
+use mr_graph::{Edge, touches_col};
 use mr_linear::{Matrix, Ops, RowOp};
 use mr_set::elements;
 use std::alloc::{AllocError, Global};
@@ -43,7 +42,7 @@ pub fn scale_to_frame(alloc: Global, frame: &Frame, a: &Matrix) -> Result<Scaled
     Ok(Scaled { ops, form })
 }
 
-// Brings the entries at the edges to 1, one after another.
+// Brings the entries at the edges to 1, one matrix_after another.
 fn scale_forest(
     frame: &Frame,
     edges: &[Edge],
@@ -87,18 +86,11 @@ fn scale_edge(
     perform(RowOp::ScaleCol { j, by: v }, work, ops)
 }
 
-// Whether an edge ends at the column.
-fn touches_col(edges: &[Edge], e: u32) -> bool
-    ensures { IsTrue result ↔ Touches edges.now (col e) }
-{
-    edges.iter().any(|x| x.col == e)
-}
-
 // Makes an operation and appends it to the list.
 fn perform(op: RowOp, work: &mut Matrix, ops: &mut Ops) -> Result<(), AllocError>
-    requires { IsAllowed work.old op }
+    requires { IsAllowedOperation work.old op }
     ensures leads { OnOk result (Continues work.old ops.old work.new ops.new) }
-    ensures matrix { OnOk result (work.new ≡ after work.old op) }
+    ensures matrix { OnOk result (work.new ≡ matrix_after work.old op) }
 {
     ops.push(op)?;
     work.apply(op);

@@ -6,16 +6,17 @@ use Rattle.mr_nogood.specs.Follows.{Rows, in_slots}
 use Rattle.mr_exchange.specs.Cubes.{cube_count}
 use Rattle.mr_exchange.specs.State.{Pass, pass_at, IsLive}
 use Rattle.mr_exchange.specs.Events.{AvoidsKnownRows, MayOpen, MayPublish}
-use Rattle.mr_exchange.specs.Held.{Held, state_of, IsHeld}
-use Rattle.mr_exchange.specs.Deciding.{IsHit, Avoids, MayUse, MayFill}
+use Rattle.mr_exchange.specs.Held.{Held, state_of}
+use Rattle.mr_exchange.specs.Private.Held.{IsHeld}
+use Rattle.mr_exchange.specs.Private.Deciding.{IsHit, AvoidsSlots, MayUse, MayFill}
 use Rattle.mr_exchange.proofs.Bounds.{cube_within}
 
 -- no known row hits
-pub avoids_known : (g : Held) (p : Pass) (node : List ℕ) → Avoids (in_slots g.slots) p.known node → AvoidsKnownRows (state_of g) p node
+pub avoids_known : (g : Held) (p : Pass) (node : List ℕ) → AvoidsSlots (in_slots g.slots) p.known node → AvoidsKnownRows (state_of g) p node
 avoids_known g p node none slot row has at short part = none slot has (subst (λ o. IsHit o node) (sym at) (short, part))
 
 -- and the other way round
-pub known_avoids : (g : Held) (p : Pass) (node : List ℕ) → AvoidsKnownRows (state_of g) p node → Avoids (in_slots g.slots) p.known node
+pub known_avoids : (g : Held) (p : Pass) (node : List ℕ) → AvoidsKnownRows (state_of g) p node → AvoidsSlots (in_slots g.slots) p.known node
 known_avoids g p node none slot has hit = read (in_slots g.slots slot) refl hit
   where
     read : (o : Option Row) → in_slots g.slots slot ≡ o → IsHit o node → ⊥

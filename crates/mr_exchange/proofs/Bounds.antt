@@ -6,7 +6,8 @@ use Rattle.mr_exchange.specs.declared.problem.Problem.{Problem}
 use Rattle.mr_exchange.specs.Cubes.{IsProblemOf, cube_count}
 use Rattle.mr_exchange.specs.State.{Pass, spent, pass_at, IsLive, slots_of, latest_of}
 use Rattle.mr_exchange.specs.Events.{MayLook, MayJoin}
-use Rattle.mr_exchange.specs.Held.{Held, state_of, IsHeld}
+use Rattle.mr_exchange.specs.Held.{Held, state_of}
+use Rattle.mr_exchange.specs.Private.Held.{IsHeld}
 use Rattle.mr_exchange.proofs.Totals.{total_two}
 use Rattle.mr_exchange.proofs.Counting.{total-sum_by}
 use Rattle.mr_exchange.proofs.Lookups.{within}

@@ -11,9 +11,10 @@ use Rattle.mr_exchange.specs.declared.event.Event.{Event}
 use Rattle.mr_exchange.specs.declared.event.Event.TheVariants.{Claim, OpenNode, LookAt, Publish, Split, Join}
 use Rattle.mr_exchange.specs.Cubes.{IsProblemOf}
 use Rattle.mr_exchange.specs.State.{Pass, State, new_pass, new_state}
-use Rattle.mr_exchange.specs.Events.{IsAllowed, after, with_row}
+use Rattle.mr_exchange.specs.Events.{IsAllowedEvent, state_after, with_row}
 use Rattle.mr_exchange.specs.Sound.{IsSound}
-use Rattle.mr_exchange.specs.Held.{Held, state_of, IsHeld, held}
+use Rattle.mr_exchange.specs.Held.{Held, state_of, held}
+use Rattle.mr_exchange.specs.Private.Held.{IsHeld}
 use Rattle.mr_exchange.proofs.Totals.{eq_cases}
 use Rattle.mr_exchange.proofs.Runs.{new_states_are_sound, allowed_events_keep_soundness}
 
@@ -86,7 +87,7 @@ module _ (f : Framed) (problem : Problem) (limit : ℕ) (g : Framed) (passes : L
       long (suc n) = ap suc (long n)
 
 -- an event keeps the frame
-frame_after : (s : State) (e : Event) → (after s e).frame ≡ s.frame
+frame_after : (s : State) (e : Event) → (state_after s e).frame ≡ s.frame
 frame_after s (Claim k) = refl
 frame_after s (OpenNode k node) = refl
 frame_after s (LookAt k) = refl
@@ -95,7 +96,7 @@ frame_after s Split = refl
 frame_after s (Join k) = refl
 
 -- and the problem
-problem_after : (s : State) (e : Event) → (after s e).problem ≡ s.problem
+problem_after : (s : State) (e : Event) → (state_after s e).problem ≡ s.problem
 problem_after s (Claim k) = refl
 problem_after s (OpenNode k node) = refl
 problem_after s (LookAt k) = refl
@@ -104,7 +105,7 @@ problem_after s Split = refl
 problem_after s (Join k) = refl
 
 -- and how many passes may be made
-limit_after : (s : State) (e : Event) → (after s e).limit ≡ s.limit
+limit_after : (s : State) (e : Event) → (state_after s e).limit ≡ s.limit
 limit_after s (Claim k) = refl
 limit_after s (OpenNode k node) = refl
 limit_after s (LookAt k) = refl
@@ -112,8 +113,8 @@ limit_after s (Publish k slot row) = refl
 limit_after s Split = refl
 limit_after s (Join k) = refl
 
--- a state after an event that is allowed is held
-pub held_after : (g h : Held) (e : Event) → IsHeld g → IsAllowed (state_of g) e → state_of h ≡ after (state_of g) e → length h.slots ≡ length g.slots → IsHeld h
+-- a state state_after an event that is allowed is held
+pub held_after : (g h : Held) (e : Event) → IsHeld g → IsAllowedEvent (state_of g) e → state_of h ≡ state_after (state_of g) e → length h.slots ≡ length g.slots → IsHeld h
 held_after g h e is may same long =
     let frame : h.frame ≡ g.frame = ap (λ (s : State). s.frame) same ∙ frame_after (state_of g) e in
     let problem : h.problem ≡ g.problem = ap (λ (s : State). s.problem) same ∙ problem_after (state_of g) e in

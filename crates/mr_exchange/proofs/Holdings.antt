@@ -16,7 +16,7 @@ use Rattle.mr_exchange.specs.declared.event.Event.TheVariants.{Claim, OpenNode, 
 use Rattle.mr_exchange.specs.declared.event.Look.TheVariants.{Long, Short}
 use Rattle.mr_exchange.specs.Cubes.{IsProblemOf}
 use Rattle.mr_exchange.specs.State.{Pass, State, spent, pass_at, IsLive, slots_of, latest_of, pair_count, head_at, known_rows}
-use Rattle.mr_exchange.specs.Events.{MayClaim, MayOpen, MayLook, MayPublish, after, knowing, known_after, looked, published, seen, with_row}
+use Rattle.mr_exchange.specs.Events.{MayClaim, MayOpen, MayLook, MayPublish, state_after, knowing, known_after, looked, published, seen, with_row}
 use Rattle.mr_exchange.specs.Sound.{IsSound}
 use Rattle.mr_exchange.specs.Facts.{PassFacts}
 use Rattle.mr_exchange.specs.Board.{holding_in, holding_of, IsKnownRow, BoardFacts, CanOpen, CanPublish, Claimed, Opened, Looked, Published, MayHave, going_on}
@@ -72,7 +72,7 @@ known-knowing s p slot row rows here same other = let more = knowing slot p.know
     (λ d. refl)))
 
 -- a known row excludes, and it is one of the frame
-known_row_of : (s : State) (p : Pass) (slot : ℕ) (row : Row) → IsSound s → PassFacts s p → known_rows s p slot ≡ Some row → IsKnownRow (holding_in s p) slot row
+pub known_row_of : (s : State) (p : Pass) (slot : ℕ) (row : Row) → IsSound s → PassFacts s p → known_rows s p slot ≡ Some row → IsKnownRow (holding_in s p) slot row
 known_row_of s p slot row sound facts is =
     let there = known_here s p slot row is in
     let has = facts.known slot there.0 in
@@ -81,6 +81,7 @@ known_row_of s p slot row sound facts is =
       excludes = subst (Excludes s.frame) same has.excludes;
       clause = follows.clause;
       position = follows.position;
+      no_value = follows.no_value;
       rank = subst (λ (r : Row). r.rank < s.problem.nodes) same has.rank;
       in_range = (let a = facts.drawn slot there.0 in omega arith);
     }
@@ -107,10 +108,10 @@ pub changed : (s : State) (k : ℕ) (w : Pass) → IsLive s k → get_or (set s.
 changed s k w live = get_or-set_same s.passes k w spent (within s.passes k live)
 
 -- a claim changes it as a board's does
-pub claim_moves : (s : State) (k : ℕ) → PassFacts s (pass_at s k) → MayClaim s k → Claimed (holding_of s k) (if nat_lt s.claim s.problem.cubes then Some s.claim else None) (holding_of (after s (Claim k)) k)
+pub claim_moves : (s : State) (k : ℕ) → PassFacts s (pass_at s k) → MayClaim s k → Claimed (holding_of s k) (if nat_lt s.claim s.problem.cubes then Some s.claim else None) (holding_of (state_after s (Claim k)) k)
 claim_moves s k facts may =
     let p = pass_at s k in
-    let s' = after s (Claim k) in
+    let s' = state_after s (Claim k) in
     let h = holding_in s p in
     subst (λ w. Claimed h (if nat_lt s.claim s.problem.cubes then Some s.claim else None) (holding_in s' w)) (sym (changed s k _ may.live))
     (lt_cases s.claim s.problem.cubes (λ b. Claimed h (if b then Some s.claim else None) (holding_in s' (if b then record p { cubes = p.cubes ++ s.claim ∷ [] } else record p { claim_ends = p.claim_ends + 1 })))
@@ -118,10 +119,10 @@ claim_moves s k facts may =
     (λ le. refl))
 
 -- an opening changes it as a board's does
-pub open_moves : (s : State) (k : ℕ) (node : List ℕ) → PassFacts s (pass_at s k) → MayOpen s k node → Opened (holding_of s k) node (if nat_lt s.ticket s.problem.nodes then Some s.ticket else None) (holding_of (after s (OpenNode k node)) k)
+pub open_moves : (s : State) (k : ℕ) (node : List ℕ) → PassFacts s (pass_at s k) → MayOpen s k node → Opened (holding_of s k) node (if nat_lt s.ticket s.problem.nodes then Some s.ticket else None) (holding_of (state_after s (OpenNode k node)) k)
 open_moves s k node facts may =
     let p = pass_at s k in
-    let s' = after s (OpenNode k node) in
+    let s' = state_after s (OpenNode k node) in
     let h = holding_in s p in
     let t : Ticket = record { slot = s.ticket; node = node } in
     subst (λ w. Opened h node (if nat_lt s.ticket s.problem.nodes then Some s.ticket else None) (holding_in s' w)) (sym (changed s k _ may.live))
@@ -135,10 +136,10 @@ open_moves s k node facts may =
     (λ le. refl))
 
 -- a publication changes it as a board's does
-pub publish_moves : (s : State) (k slot : ℕ) (row : Row) → MayPublish s k slot row → Published (holding_of s k) slot row (holding_of (after s (Publish k slot row)) k)
+pub publish_moves : (s : State) (k slot : ℕ) (row : Row) → MayPublish s k slot row → Published (holding_of s k) slot row (holding_of (state_after s (Publish k slot row)) k)
 publish_moves s k slot row may =
     let p = pass_at s k in
-    let s' = after s (Publish k slot row) in
+    let s' = state_after s (Publish k slot row) in
     let h = holding_in s p in
     subst (λ w. Published h slot row (holding_in s' w)) (sym (changed s k (published slot p) may.live))
     (ap (λ (rows : Rows). record h { known = rows }) (fun_ext (known-knowing s p slot row s'.rows (row_here s.rows slot row) (λ other n. row_else s.rows slot other row n))))
@@ -175,7 +176,7 @@ look_at_slot s p (Some row) facts there =
     (λ lt. record { row = row; there = may_have s p row facts there; long = lt; is = refl })
 
 -- a look changes it as a board's does
-pub look_moves : (s : State) (k : ℕ) → PassFacts s (pass_at s k) → MayLook s k → Looked (holding_of s k) (seen (pass_at s k).cursor (s.rows (pass_at s k).cursor)) (holding_of (after s (LookAt k)) k)
+pub look_moves : (s : State) (k : ℕ) → PassFacts s (pass_at s k) → MayLook s k → Looked (holding_of s k) (seen (pass_at s k).cursor (s.rows (pass_at s k).cursor)) (holding_of (state_after s (LookAt k)) k)
 look_moves s k facts may =
     let p = pass_at s k in
     subst (λ w. Looked (holding_in s p) (seen p.cursor (s.rows p.cursor)) (holding_in s w)) (sym (changed s k (looked s.problem.nodes s.rows p) may.live))
@@ -215,8 +216,8 @@ passes_act_as_boards s k frame problem sound live alone = let facts = passes_hav
   can_open = λ node. may_open s k node live alone;
   can_look = ((λ (may : MayLook s k). may.some_ticket), λ some. record { live = live; alone = alone; some_ticket = some });
   can_publish = λ slot row. may_publish s k slot row facts live;
-  claim = λ cube may is. (let same : (if nat_lt s.claim s.problem.cubes then Some s.claim else None) ≡ cube = cc in subst (λ c. Claimed (holding_of s k) c (holding_of (after s (Claim k)) k)) same (claim_moves s k facts may));
-  opening = λ node ticket may is. (let same : (if nat_lt s.ticket s.problem.nodes then Some s.ticket else None) ≡ ticket = cc in subst (λ t. Opened (holding_of s k) node t (holding_of (after s (OpenNode k node)) k)) same (open_moves s k node facts may));
-  look = λ look may is. (let same : seen (pass_at s k).cursor (s.rows (pass_at s k).cursor) ≡ look = cc in subst (λ l. Looked (holding_of s k) l (holding_of (after s (LookAt k)) k)) same (look_moves s k facts may));
+  claim = λ cube may is. (let same : (if nat_lt s.claim s.problem.cubes then Some s.claim else None) ≡ cube = cc in subst (λ c. Claimed (holding_of s k) c (holding_of (state_after s (Claim k)) k)) same (claim_moves s k facts may));
+  opening = λ node ticket may is. (let same : (if nat_lt s.ticket s.problem.nodes then Some s.ticket else None) ≡ ticket = cc in subst (λ t. Opened (holding_of s k) node t (holding_of (state_after s (OpenNode k node)) k)) same (open_moves s k node facts may));
+  look = λ look may is. (let same : seen (pass_at s k).cursor (s.rows (pass_at s k).cursor) ≡ look = cc in subst (λ l. Looked (holding_of s k) l (holding_of (state_after s (LookAt k)) k)) same (look_moves s k facts may));
   publication = λ slot row may. publish_moves s k slot row may;
 }

@@ -5,7 +5,7 @@ use Rattle.std.proofs.lemmas.List.{get_or-set_same, get_or-set_other}
 use Rattle.std.proofs.lemmas.List.Elements.{Contains-append_left, Contains-append_right, Contains-append_cases, Contains-push_cases}
 use Rattle.mr_exchange.specs.declared.event.Event.TheVariants.{Join}
 use Rattle.mr_exchange.specs.State.{Pass, State, spent, pass_at, slots_of}
-use Rattle.mr_exchange.specs.Events.{MayJoin, after, joins}
+use Rattle.mr_exchange.specs.Events.{MayJoin, state_after, joins}
 use Rattle.mr_exchange.specs.Sound.{IsOwned}
 use Rattle.mr_exchange.proofs.Balance.{total, times, one_if, weight, PassBalance, Balances}
 use Rattle.mr_exchange.proofs.Totals.{total_set, times-append, times_push, eq_cases}
@@ -14,7 +14,7 @@ use Rattle.mr_exchange.proofs.Alters.{HasSlot, owned_by, owner_has, renumbered}
 use Rattle.mr_exchange.proofs.Steps.{is_live, node_more}
 use Rattle.mr_exchange.proofs.Making.{spent_balance}
 
--- the passes after the pass k was joined into the first, which is w then
+-- the passes state_after the pass k was joined into the first, which is w then
 abbrev joined_list : List Pass → ℕ → Pass → List Pass
 joined_list xs k w = set (set xs 0 w) k spent
 
@@ -99,7 +99,7 @@ join_once s k j h may low high =
     j refl
 
 -- a join keeps the balance
-pub join_keeps : (s : State) (k : ℕ) → Balances s → MayJoin s k → Balances (after s (Join k))
+pub join_keeps : (s : State) (k : ℕ) → Balances s → MayJoin s k → Balances (state_after s (Join k))
 join_keeps s k h may =
     let p = pass_at s 0 in
     let q = pass_at s k in

@@ -1,14 +1,13 @@
 -- What a look shows is told by the head of the slot.
-use Rattle.std.proofs.Common.{◌≡◌, ℕ, ◌<◌, ◌↔◌, if◌then◌else◌, Option, Some, None, IfSome, refl, sym, ◌∙◌, subst, arith}
+use Rattle.std.proofs.Common.{◌≡◌, ℕ, ◌^◌, ◌<◌, ◌↔◌, if◌then◌else◌, Option, Some, None, IfSome, refl, sym, ◌∙◌, subst, arith}
 use Rattle.mr_nogood.specs.declared.row.Row.{Row}
-use Rattle.mr_nogood.specs.Row.{IsRow}
 use Rattle.mr_nogood.specs.Packing.{head_of}
 use Rattle.mr_exchange.specs.declared.TheConstants.{SHORT}
 use Rattle.mr_exchange.specs.declared.event.Look.{Look}
 use Rattle.mr_exchange.specs.declared.event.Look.TheVariants.{Empty, Long, Short}
 use Rattle.mr_exchange.specs.State.{pair_count, head_at}
 use Rattle.mr_exchange.specs.Events.{seen}
-use Rattle.mr_exchange.specs.Board.{pairs_of}
+use Rattle.mr_exchange.specs.Board.{pairs_shown}
 use Rattle.mr_exchange.proofs.Holdings.{le_cases}
 
 -- a slot is empty just where its head is 0
@@ -20,16 +19,16 @@ seen-Empty slot (Some row) = (
 )
 
 -- a head shows how many pairs there are
-pairs_of-head_of : (row : Row) → IsRow row → pairs_of (head_of row) ≡ pair_count row.clause
-pairs_of-head_of row is = let rank = is.rank in let place = is.at in omega arith
+pairs_of-head_of : (row : Row) → (row.rank < 2 ^ 32) × (row.at < 2 ^ 8) → pairs_shown (head_of row) ≡ pair_count row.clause
+pairs_of-head_of row is = let rank = is.0 in let place = is.1 in omega arith
 
 -- the clause of its row is long just where the head shows more pairs than that
-pub seen-Long : (slot : ℕ) (found : Option Row) → IfSome found IsRow → (seen slot found ≡ Long) ↔ (SHORT < pairs_of (head_at found))
-seen-Long slot None is = ((λ (e : Empty ≡ Long). absurd cc), λ (more : SHORT < pairs_of 0). absurd (omega arith))
+pub seen-Long : (slot : ℕ) (found : Option Row) → IfSome found (λ row. (row.rank < 2 ^ 32) × (row.at < 2 ^ 8)) → (seen slot found ≡ Long) ↔ (SHORT < pairs_shown (head_at found))
+seen-Long slot None is = ((λ (e : Empty ≡ Long). absurd cc), λ (more : SHORT < pairs_shown 0). absurd (omega arith))
 seen-Long slot (Some row) is =
     let pairs = pairs_of-head_of row is in
-    le_cases (pair_count row.clause) SHORT (λ b. ((if b then Short slot row else Long) ≡ Long) ↔ (SHORT < pairs_of (head_of row)))
-    (λ le. ((λ (e : Short slot row ≡ Long). absurd cc), λ (more : SHORT < pairs_of (head_of row)). absurd (omega arith)))
+    le_cases (pair_count row.clause) SHORT (λ b. ((if b then Short slot row else Long) ≡ Long) ↔ (SHORT < pairs_shown (head_of row)))
+    (λ le. ((λ (e : Short slot row ≡ Long). absurd cc), λ (more : SHORT < pairs_shown (head_of row)). absurd (omega arith)))
     (λ lt. ((λ _. omega arith), λ _. refl))
 
 -- the same of what a look answered and of the head that it loaded
@@ -37,8 +36,8 @@ pub shows_empty : (slot : ℕ) (found : Option Row) (look : Look) (head : ℕ) �
 shows_empty slot found look head is loaded = let h = seen-Empty slot found in ((λ e. loaded ∙ h.0 (sym is ∙ e)), λ none. is ∙ h.1 (sym loaded ∙ none))
 
 -- and of long clauses
-pub shows_long : (slot : ℕ) (found : Option Row) → IfSome found IsRow → (look : Look) (head : ℕ) → look ≡ seen slot found → head ≡ head_at found → (look ≡ Long) ↔ (SHORT < pairs_of head)
+pub shows_long : (slot : ℕ) (found : Option Row) → IfSome found (λ row. (row.rank < 2 ^ 32) × (row.at < 2 ^ 8)) → (look : Look) (head : ℕ) → look ≡ seen slot found → head ≡ head_at found → (look ≡ Long) ↔ (SHORT < pairs_shown head)
 shows_long slot found row look head is loaded = let h = seen-Long slot found row in (
-  (λ e. subst (λ (n : ℕ). SHORT < pairs_of n) (sym loaded) (h.0 (sym is ∙ e))),
-  λ more. is ∙ h.1 (subst (λ (n : ℕ). SHORT < pairs_of n) loaded more),
+  (λ e. subst (λ (n : ℕ). SHORT < pairs_shown n) (sym loaded) (h.0 (sym is ∙ e))),
+  λ more. is ∙ h.1 (subst (λ (n : ℕ). SHORT < pairs_shown n) loaded more),
 )

@@ -9,7 +9,7 @@ use Rattle.mr_set.proofs.Ordered.{member_none}
 use Rattle.mr_exchange.specs.declared.problem.Problem.{Problem}
 use Rattle.mr_exchange.specs.declared.event.Event.TheVariants.{Split}
 use Rattle.mr_exchange.specs.State.{Pass, State, spent, new_pass, new_state, pass_at, slots_of}
-use Rattle.mr_exchange.specs.Events.{after}
+use Rattle.mr_exchange.specs.Events.{state_after}
 use Rattle.mr_exchange.proofs.Balance.{total, times, one_if, weight, PassBalance, Balances}
 use Rattle.mr_exchange.proofs.Totals.{total-append, total_set, once_not, of_times}
 use Rattle.mr_exchange.proofs.Lookups.{within, each_set, set_keeps, set_same, each_push}
@@ -125,7 +125,7 @@ split_once s w u k h same live low high = by_length (dec_le (length s.passes) k)
         times_none (pass_at s 0).joined k (λ m. let r = (h.joined k m).1 in omega arith) ∙ ap (λ b. one_if (not b)) (sym new)
 
 -- a split keeps the balance
-pub split_keeps : (s : State) → Balances s → (pass_at s 0).made < s.limit → Balances (after s Split)
+pub split_keeps : (s : State) → Balances s → (pass_at s 0).made < s.limit → Balances (state_after s Split)
 split_keeps s h room =
     let p = pass_at s 0 in
     let mine = h.each 0 in

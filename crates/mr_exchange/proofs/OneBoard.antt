@@ -18,11 +18,12 @@ use Rattle.mr_exchange.specs.declared.event.Look.{Look}
 use Rattle.mr_exchange.specs.declared.event.Look.TheVariants.{Long, Short}
 use Rattle.mr_exchange.specs.Cubes.{IsProblemOf}
 use Rattle.mr_exchange.specs.State.{Pass, State, new_state, pass_at, IsLive, slots_of, latest_of, head_at, pair_count, known_rows}
-use Rattle.mr_exchange.specs.Events.{IsAllowed, MayClaim, MayOpen, MayLook, MayPublish, after, looked, published, seen, with_row}
+use Rattle.mr_exchange.specs.Events.{IsAllowedEvent, MayClaim, MayOpen, MayLook, MayPublish, state_after, looked, published, seen, with_row}
 use Rattle.mr_exchange.specs.Facts.{PassFacts, IsWhole}
 use Rattle.mr_exchange.specs.Board.{new_holding, MayHave, going_on, Holding, holding_of, BoardFacts, CanOpen, CanPublish, Claimed, Opened, Looked, Published}
 use Rattle.mr_exchange.specs.Closed.{closed_is, IsShown}
-use Rattle.mr_exchange.specs.Plain.{PlainIs, plain_is, plain_holding, IsInOrder, whole_in, IsPlain}
+use Rattle.mr_exchange.specs.Plain.{PlainIs, plain_is, plain_holding, IsPlainPass}
+use Rattle.mr_exchange.specs.Private.Plain.{whole_in, IsPlain}
 use Rattle.mr_exchange.proofs.Lookups.{slots_of-append}
 use Rattle.mr_exchange.proofs.OnePass.{passes_have_facts, length-numbers_below}
 use Rattle.mr_exchange.proofs.Totals.{eq_cases}
@@ -67,7 +68,7 @@ module _ (p : PlainIs) (i : IsPlain p) where
   plain_facts = subst BoardFacts holds (facts_of i.state 0 of_frame of_problem i.sound live i.alone)
 
   -- its numbers are in order
-  pub plain_order : IsInOrder (plain_holding p)
+  pub plain_order : IsPlainPass (plain_holding p)
   plain_order =
       let cubes : length (pass_at i.state 0).cubes ≡ length p.cubes = ap (λ (h : Holding). length h.cubes) i.is in
       let tickets : length (pass_at i.state 0).tickets ≡ length p.tickets = ap (λ (h : Holding). length h.tickets) i.is in record {
@@ -86,14 +87,14 @@ module _ (p : PlainIs) (i : IsPlain p) where
   opened_is = subst (λ (h : Holding). length h.tickets ≡ min i.state.ticket h.problem.nodes) i.is whole.opened
 
   -- an event leads to such a board again
-  next : (q : PlainIs) (e : Event) (w : Pass) → IsAllowed i.state e → pass_at (after i.state e) 0 ≡ w → w.joined ≡ [] → w.made ≡ 1 → whole_in (after i.state e) w ≡ plain_holding q
+  next : (q : PlainIs) (e : Event) (w : Pass) → IsAllowedEvent i.state e → pass_at (state_after i.state e) 0 ≡ w → w.joined ≡ [] → w.made ≡ 1 → whole_in (state_after i.state e) w ≡ plain_holding q
       → q.frame ≡ p.frame → q.problem ≡ p.problem → length q.rows ≡ q.problem.nodes → q.cubes ≡ numbers_below (length q.cubes) → slots_of q.tickets ≡ numbers_below (length q.tickets) → IsPlain q
   next q e w may is alone one same frame problem size cubes tickets = record {
-    state = after i.state e;
+    state = state_after i.state e;
     sound = allowed_events_keep_soundness i.state e i.sound may;
     alone = ap (λ (x : Pass). x.joined) is ∙ alone;
     one = ap (λ (x : Pass). x.made) is ∙ one;
-    is = ap (λ (x : Pass). whole_in (after i.state e) x) is ∙ same;
+    is = ap (λ (x : Pass). whole_in (state_after i.state e) x) is ∙ same;
     frame = subst IsFrame (sym frame) i.frame;
     problem = subst (λ (f : Framed). IsProblemOf f q.problem) (sym frame) (subst (λ (x : Problem). IsProblemOf p.frame x) (sym problem) i.problem);
     size = size;
@@ -116,7 +117,7 @@ claims_cube p i none lt =
     let word : s.claim ≡ n = (let a = claimed_is p i in omega arith) in
     let may : MayClaim s 0 = record { live = live p i; no_end = ap (λ (h : Holding). h.claim_ends) i.is ∙ none } in
     let w = record (pass_at s 0) { cubes = (pass_at s 0).cubes ++ s.claim ∷ [] } in
-    let found : pass_at (after s (Claim 0)) 0 ≡ w = changed s 0 _ (live p i) ∙ ap (λ (b : Bool). if b then w else record (pass_at s 0) { claim_ends = (pass_at s 0).claim_ends + 1 }) (lt-ltb s.claim s.problem.cubes (omega arith)) in
+    let found : pass_at (state_after s (Claim 0)) 0 ≡ w = changed s 0 _ (live p i) ∙ ap (λ (b : Bool). if b then w else record (pass_at s 0) { claim_ends = (pass_at s 0).claim_ends + 1 }) (lt-ltb s.claim s.problem.cubes (omega arith)) in
     next p i (record p { cubes = p.cubes ++ n ∷ [] }) (Claim 0) w may found i.alone i.one
     (ap (λ (h : Holding). record h { cubes = h.cubes ++ s.claim ∷ [] }) i.is ∙ ap (λ (m : ℕ). record (plain_holding p) { cubes = p.cubes ++ m ∷ [] }) word)
     refl refl i.size (push_in_order p.cubes n refl i.cubes) i.tickets
@@ -129,7 +130,7 @@ claims_none p i none le =
     let past : s.problem.cubes ≤ s.claim = (let a = claimed_is p i in omega arith) in
     let may : MayClaim s 0 = record { live = live p i; no_end = ap (λ (h : Holding). h.claim_ends) i.is ∙ none } in
     let w = record (pass_at s 0) { claim_ends = (pass_at s 0).claim_ends + 1 } in
-    let found : pass_at (after s (Claim 0)) 0 ≡ w = changed s 0 _ (live p i) ∙ ap (λ (b : Bool). if b then record (pass_at s 0) { cubes = (pass_at s 0).cubes ++ s.claim ∷ [] } else w) (le-ltb s.claim s.problem.cubes past) in
+    let found : pass_at (state_after s (Claim 0)) 0 ≡ w = changed s 0 _ (live p i) ∙ ap (λ (b : Bool). if b then record (pass_at s 0) { cubes = (pass_at s 0).cubes ++ s.claim ∷ [] } else w) (le-ltb s.claim s.problem.cubes past) in
     next p i (record p { claim_ends = p.claim_ends + 1 }) (Claim 0) w may found i.alone i.one (ap (λ (h : Holding). record h { claim_ends = h.claim_ends + 1 }) i.is) refl refl i.size i.cubes i.tickets
 
 -- no cube from their count on is the board's
@@ -157,7 +158,7 @@ opens_node p i node can lt =
     let nodes_are : s.problem.nodes ≡ p.problem.nodes = ap (λ (h : Holding). h.problem.nodes) i.is in
     let word : s.ticket ≡ n = (let a = opened_is p i in omega arith) in
     let w = record (pass_at s 0) { tickets = (pass_at s 0).tickets ++ record { slot = s.ticket; node = node } ∷ [] } in
-    let found : pass_at (after s (OpenNode 0 node)) 0 ≡ w = changed s 0 _ (live p i) ∙ ap (λ (b : Bool). if b then w else record (pass_at s 0) { ticket_ends = (pass_at s 0).ticket_ends + 1 }) (lt-ltb s.ticket s.problem.nodes (omega arith)) in
+    let found : pass_at (state_after s (OpenNode 0 node)) 0 ≡ w = changed s 0 _ (live p i) ∙ ap (λ (b : Bool). if b then w else record (pass_at s 0) { ticket_ends = (pass_at s 0).ticket_ends + 1 }) (lt-ltb s.ticket s.problem.nodes (omega arith)) in
     next p i (record p { tickets = p.tickets ++ record { slot = n; node = node } ∷ [] }) (OpenNode 0 node) w (opens p i node can) found i.alone i.one
     (ap (λ (h : Holding). record h { tickets = h.tickets ++ record { slot = s.ticket; node = node } ∷ [] }) i.is ∙ ap (λ (m : ℕ). record (plain_holding p) { tickets = p.tickets ++ record { slot = m; node = node } ∷ [] }) word)
     refl refl i.size i.cubes (slots_in_order p.tickets node i.tickets)
@@ -169,7 +170,7 @@ opens_none p i node can le =
     let nodes_are : s.problem.nodes ≡ p.problem.nodes = ap (λ (h : Holding). h.problem.nodes) i.is in
     let past : s.problem.nodes ≤ s.ticket = (let a = opened_is p i in omega arith) in
     let w = record (pass_at s 0) { ticket_ends = (pass_at s 0).ticket_ends + 1 } in
-    let found : pass_at (after s (OpenNode 0 node)) 0 ≡ w = changed s 0 _ (live p i) ∙ ap (λ (b : Bool). if b then record (pass_at s 0) { tickets = (pass_at s 0).tickets ++ record { slot = s.ticket; node = node } ∷ [] } else w) (le-ltb s.ticket s.problem.nodes past) in
+    let found : pass_at (state_after s (OpenNode 0 node)) 0 ≡ w = changed s 0 _ (live p i) ∙ ap (λ (b : Bool). if b then record (pass_at s 0) { tickets = (pass_at s 0).tickets ++ record { slot = s.ticket; node = node } ∷ [] } else w) (le-ltb s.ticket s.problem.nodes past) in
     next p i (record p { ticket_ends = p.ticket_ends + 1 }) (OpenNode 0 node) w (opens p i node can) found i.alone i.one (ap (λ (h : Holding). record h { ticket_ends = h.ticket_ends + 1 }) i.is) refl refl i.size i.cubes i.tickets
 
 -- the numbers of the tickets are those below their count
@@ -206,7 +207,7 @@ latest_is p i some = at_last p.tickets some i.tickets
 same_slot : (xs ys : List (Option Row)) (j k : ℕ) → slice_get xs j ≡ slice_get ys k → in_slots xs j ≡ in_slots ys k
 same_slot xs ys j k e = rw e refl
 
--- what stands at the other places of a list after a change
+-- what stands at the other places of a list state_after a change
 slice_get-set_other : {A : Type 0} (xs : List A) (k j : ℕ) (x : A) → j ≢ k → slice_get (set xs k x) j ≡ slice_get xs j
 slice_get-set_other [] k j x n = refl
 slice_get-set_other (y ∷ ys) zero zero x n = absurd (n refl)
@@ -225,7 +226,7 @@ in_slots-set rows slot row lt other = eq_cases other slot (λ b. in_slots (set r
     (slice_get-get_or (set rows slot (Some row)) slot None (omega (arith, length-set rows slot (Some row))) ∙ ap Some (get_or-set_same rows slot (Some row) None lt)))
     (λ n. same_slot (set rows slot (Some row)) rows other other (slice_get-set_other rows slot other (Some row) n))
 
--- a board after a look at the slot at its cursor
+-- a board state_after a look at the slot at its cursor
 abbrev pub looked_on : PlainIs → PlainIs
 looked_on p = record p {
   looks = min (p.looks + 1) (LOOKS * p.problem.nodes);
@@ -233,7 +234,7 @@ looked_on p = record p {
   cursor = if p.cursor == latest_of p.tickets then 0 else p.cursor + 1;
 }
 
--- what its pass has and knows after it, where it knew all the rows before
+-- what its pass has and knows state_after it, where it knew all the rows before
 abbrev going : Holding → Rows → Holding
 going h rows = record h {
   looks = min (h.looks + 1) (LOOKS * h.problem.nodes);
@@ -324,7 +325,7 @@ closes p i = record {
   claimed = claimed_is p i;
 }
 
--- the board after a claim that finds a cube
+-- the board state_after a claim that finds a cube
 pub after_cube : (p : PlainIs) → IsPlain p → p.claim_ends ≡ 0 → (n : ℕ) (cubes : List ℕ) → n ≡ length p.cubes → n < p.problem.cubes → cubes ≡ p.cubes ++ n ∷ [] → IsPlain (record p { cubes = cubes })
 after_cube p i none n cubes is lt more = subst (λ (xs : List ℕ). IsPlain (record p { cubes = xs })) (ap (λ (m : ℕ). p.cubes ++ m ∷ []) (sym is) ∙ sym more) (claims_cube p i none (omega arith))
 
@@ -332,7 +333,7 @@ after_cube p i none n cubes is lt more = subst (λ (xs : List ℕ). IsPlain (rec
 pub gains_cube : (p : PlainIs) → IsPlain p → (n : ℕ) (cubes : List ℕ) → n ≡ length p.cubes → n < p.problem.cubes → cubes ≡ p.cubes ++ n ∷ [] → Claimed (plain_holding p) (Some n) (plain_holding (record p { cubes = cubes }))
 gains_cube p i n cubes is lt more = record { low = lt; new = λ has. new_cube p i (subst (Contains p.cubes) is has); is = ap (λ (xs : List ℕ). record (plain_holding p) { cubes = xs }) more }
 
--- the board after an opening that finds a ticket
+-- the board state_after an opening that finds a ticket
 pub after_ticket : (p : PlainIs) → IsPlain p → (node : List ℕ) → CanOpen (plain_holding p) node → (n : ℕ) (tickets : List Ticket) → n ≡ length p.tickets → n < p.problem.nodes → tickets ≡ p.tickets ++ record { slot = n; node = node } ∷ []
     → IsPlain (record p { tickets = tickets })
 after_ticket p i node can n tickets is lt more =
@@ -348,7 +349,7 @@ gains_ticket p i node n tickets is lt more = record {
   is = ap (λ (xs : List Ticket). record (plain_holding p) { tickets = xs }) more;
 }
 
--- the board after a publication
+-- the board state_after a publication
 pub after_row : (p : PlainIs) → IsPlain p → (slot : ℕ) (row : Row) → CanPublish (plain_holding p) slot row → (rows : List (Option Row)) → rows ≡ set p.rows slot (Some row) → IsPlain (record p { rows = rows })
 after_row p i slot row can rows is = subst (λ (xs : List (Option Row)). IsPlain (record p { rows = xs })) (sym is) (publishes p i slot row can)
 
@@ -356,7 +357,7 @@ after_row p i slot row can rows is = subst (λ (xs : List (Option Row)). IsPlain
 pub knows_row : (p : PlainIs) → IsPlain p → (slot : ℕ) (row : Row) → CanPublish (plain_holding p) slot row → (rows : List (Option Row)) → rows ≡ set p.rows slot (Some row) → Published (plain_holding p) slot row (plain_holding (record p { rows = rows }))
 knows_row p i slot row can rows is = ap (λ (xs : List (Option Row)). plain_holding (record p { rows = xs })) is ∙ publish_tells p i slot row can
 
--- the board after a look, by the parts that the look changed
+-- the board state_after a look, by the parts that the look changed
 module _ (p : PlainIs) (i : IsPlain p) (some : p.tickets ≢ []) (found : Option Row) (there : found ≡ in_slots p.rows p.cursor) (looks head cursor latest : ℕ) (more : looks ≡ min (p.looks + 1) (LOOKS * p.problem.nodes)) (loaded : head ≡ head_at found)
     (last : latest ≡ length p.tickets - 1) (moved : cursor ≡ (if p.cursor == latest then 0 else p.cursor + 1)) where
   -- it is the one that the look leaves

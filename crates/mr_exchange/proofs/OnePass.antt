@@ -3,9 +3,11 @@ use Rattle.std.proofs.Common.{◌≡◌, ℕ, zero, suc, ◌+◌, ◌<◌, ◌�
 use native.Mathlib.Decide.{ℕ_discrete}
 use Rattle.std.proofs.lemmas.List.Sums.{count_by-le-length}
 use Rattle.mr_set.specs.Elements.{numbers_below}
+use Rattle.mr_set.proofs.Ordered.{member_none}
 use Rattle.mr_nogood.specs.declared.row.Row.{Row}
 use Rattle.mr_nogood.specs.Follows.{Rows}
 use Rattle.mr_exchange.specs.State.{Pass, State, spent, pass_at, IsLive, slots_of, row_count}
+use Rattle.mr_exchange.specs.Sound.{ArePasses}
 use Rattle.mr_exchange.specs.Facts.{IsWhole}
 use Rattle.mr_exchange.specs.Laws.{PassesHaveFacts, WordsAreSmall}
 use Rattle.mr_exchange.proofs.Balance.{total, times, once_below, weight, Balances}
@@ -126,6 +128,25 @@ words_are_small s sound =
     let ticket = h.ticket in
     (omega arith, omega arith)
 
+-- what was joined into a pass is no first pass, and was made
+joined_of : (s : State) (k : ℕ) → ArePasses s → (j : ℕ) → Contains (pass_at s k).joined j → (1 ≤ j) × (j < (pass_at s k).made)
+joined_of s k passes j has = by_place (ℕ_discrete k 0)
+  where
+    by_place : Dec (k ≡ 0) → (1 ≤ j) × (j < (pass_at s k).made)
+    by_place (yes e) =
+        let of_first = passes.joined j (subst (λ n. Contains (pass_at s n).joined j) e has) in
+        let made : (pass_at s k).made ≡ length s.passes = ap (λ n. (pass_at s n).made) e ∙ passes.made in
+        (of_first.0, (let lt = of_first.1 in omega (arith, lt, made)))
+    by_place (no d) = absurd (member_none j (subst (λ xs. Contains xs j) (passes.others k d) has))
+
+-- and none twice
+joined_once_of : (s : State) (k : ℕ) → ArePasses s → (j : ℕ) → count_by (λ x. x == j) (pass_at s k).joined ≤ 1
+joined_once_of s k passes j = by_place (ℕ_discrete k 0)
+  where
+    by_place : Dec (k ≡ 0) → count_by (λ x. x == j) (pass_at s k).joined ≤ 1
+    by_place (yes e) = subst (λ n. count_by (λ x. x == j) (pass_at s n).joined ≤ 1) (sym e) (passes.joined_once j)
+    by_place (no d) = subst (λ xs. count_by (λ x. x == j) xs ≤ 1) (sym (passes.others k d)) (omega arith)
+
 -- what a sound state says of a live pass
 pub passes_have_facts : PassesHaveFacts
 passes_have_facts s k frame sound live =
@@ -145,6 +166,10 @@ passes_have_facts s k frame sound live =
       known = λ slot knows. row_of s.rows slot (mine.known slot knows) (λ row at. record { row = row; at = at; excludes = rows_of_sound_states_exclude s slot row frame sound at; rank = (let a = h.proved.low slot row at in let b = row_count-le s.problem.nodes s.rows in omega arith) });
       drawn = λ slot knows. row_of s.rows slot (mine.known slot knows) (λ row at. (let o = h.owned slot row at in drawn s o.owner slot h o.live o.has));
       own = λ slot has. ((λ some. row_of s.rows slot some (owner_of s h k slot live has)), mine.known slot);
+      joined = joined_of s k sound.passes;
+      joined_once = joined_once_of s k sound.passes;
+      claim_ends = sound.passes.claim_ends k live;
+      ticket_ends = sound.passes.ticket_ends k live;
       whole = λ first all. (
           let place : k ≡ 0 = sym (mine.number live) ∙ first in
           let made : p.made ≡ length s.passes = (mine.first place).1 in

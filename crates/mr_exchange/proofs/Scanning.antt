@@ -13,12 +13,12 @@ use Rattle.mr_nogood.specs.declared.row.Cite.{Cite}
 use Rattle.mr_nogood.specs.declared.row.Cite.TheVariants.{Nothing, Test, Slot}
 use Rattle.mr_nogood.specs.Row.{cite_for}
 use Rattle.mr_nogood.specs.Follows.{Rows, in_slots}
-use Rattle.mr_nogood.specs.Checking.{named}
+use Rattle.mr_nogood.specs.Private.Checking.{cited_row}
 use Rattle.mr_exchange.specs.declared.ticket.Ticket.{Ticket}
 use Rattle.mr_exchange.specs.Cubes.{cube_at}
 use Rattle.mr_exchange.specs.State.{slots_of}
 use Rattle.mr_exchange.specs.Rank.{HasLeastRank, IsAboveCited}
-use Rattle.mr_exchange.specs.Deciding.{IsHit, Avoids, rank_past, only}
+use Rattle.mr_exchange.specs.Private.Deciding.{IsHit, AvoidsSlots, rank_past, only}
 use Rattle.mr_exchange.proofs.Totals.{eq_cases, bool_cases}
 use Rattle.mr_exchange.proofs.Lookups.{length-slots_of}
 use Rattle.mr_exchange.proofs.Holding.{in_slots_read, in_slots_here, in_slots_else, in_slots-replicate}
@@ -44,7 +44,7 @@ abbrev pub AvoidsBefore : Rows → List ℕ → List ℕ → ℕ → Type 0
 AvoidsBefore rows slots node i = (j : ℕ) → j < i → ¬ (IsHit (rows (get_or slots j 0)) node)
 
 -- then none does
-pub avoids_all : (rows : Rows) (slots node : List ℕ) → AvoidsBefore rows slots node (length slots) → Avoids rows slots node
+pub avoids_all : (rows : Rows) (slots node : List ℕ) → AvoidsBefore rows slots node (length slots) → AvoidsSlots rows slots node
 avoids_all rows slots node none slot has hit = none has.0 has.1 (subst (λ s. IsHit (rows s) node) (sym (get_or_default slots has.0 0 slot has.1 ∙ has.2)) hit)
 
 -- no cube before this place is in the node
@@ -57,17 +57,17 @@ no_cube f depth cubes node none c has part = none has.0 has.1 (subst (λ x. IsPa
 
 -- the number is the least that is no less than the numbers past the ranks of the first n cites
 pub record IsLeastPast (given : Rows) (row : Row) (n least : ℕ) : Type 0 where
-  pub above : (k : ℕ) → k < n → rank_past (named given (cite_for row k)) ≤ least
-  pub least_is : (m : ℕ) → ((k : ℕ) → k < n → rank_past (named given (cite_for row k)) ≤ m) → least ≤ m
+  pub above : (k : ℕ) → k < n → rank_past (cited_row given (cite_for row k)) ≤ least
+  pub least_is : (m : ℕ) → ((k : ℕ) → k < n → rank_past (cited_row given (cite_for row k)) ≤ m) → least ≤ m
 
 -- at first it is 0
 pub least_of_none : (given : Rows) (row : Row) → IsLeastPast given row 0 0
 least_of_none given row = record { above = λ k lt. absurd (omega arith); least_is = λ m h. omega arith }
 
 -- one more cite
-pub least_of_more : (given : Rows) (row : Row) (n least past : ℕ) → IsLeastPast given row n least → past ≡ rank_past (named given (cite_for row n)) → IsLeastPast given row (n + 1) (max least past)
+pub least_of_more : (given : Rows) (row : Row) (n least past : ℕ) → IsLeastPast given row n least → past ≡ rank_past (cited_row given (cite_for row n)) → IsLeastPast given row (n + 1) (max least past)
 least_of_more given row n least past h is = record {
-  above = λ k lt. ⊎_elim (λ (l : k < n). (let a = h.above k l in omega arith)) (λ (e : k ≡ n). (let a : rank_past (named given (cite_for row k)) ≡ past = ap (λ i. rank_past (named given (cite_for row i))) e ∙ sym is in omega arith)) (last k lt);
+  above = λ k lt. ⊎_elim (λ (l : k < n). (let a = h.above k l in omega arith)) (λ (e : k ≡ n). (let a : rank_past (cited_row given (cite_for row k)) ≡ past = ap (λ i. rank_past (cited_row given (cite_for row i))) e ∙ sym is in omega arith)) (last k lt);
   least_is = λ m all. (let a = h.least_is m (λ k lt. all k (omega arith)) in let b = all n (omega arith) in omega arith);
 }
   where
@@ -75,14 +75,14 @@ least_of_more given row n least past h is = record {
     last k lt = eq_cases k n (λ b. (k < n) ⊎ (k ≡ n)) (λ e. inr e) (λ d. inl (omega arith))
 
 -- where the number is above each rank that is cited, it is no less than what is past it
-past_le : (given : Rows) (row : Row) (m k : ℕ) → IsAboveCited given row m → rank_past (named given (cite_for row k)) ≤ m
+past_le : (given : Rows) (row : Row) (m k : ℕ) → IsAboveCited given row m → rank_past (cited_row given (cite_for row k)) ≤ m
 past_le given row m k above = by_cite (cite_for row k) refl
   where
     by_row : (slot : ℕ) (o : Option Row) → cite_for row k ≡ Slot slot → given slot ≡ o → rank_past o ≤ m
     by_row slot None cites found = omega arith
     by_row slot (Some cited) cites found = let lt = above k slot cited cites found in omega arith
 
-    by_cite : (c : Cite) → cite_for row k ≡ c → rank_past (named given c) ≤ m
+    by_cite : (c : Cite) → cite_for row k ≡ c → rank_past (cited_row given c) ≤ m
     by_cite Nothing cites = omega arith
     by_cite (Test x) cites = omega arith
     by_cite (Slot slot) cites = by_row slot (given slot) cites refl
@@ -95,7 +95,7 @@ module _ (given : Rows) (row : Row) (least : ℕ) (count : length row.cites ≡ 
       by_place : (k < VALUES) ⊎ (VALUES ≤ k) → cited.rank < least
       by_place (inl lt) =
           let past = h.above k lt in
-          let e : rank_past (named given (cite_for row k)) ≡ cited.rank + 1 = ap (λ c. rank_past (named given c)) cites ∙ ap rank_past found in
+          let e : rank_past (cited_row given (cite_for row k)) ≡ cited.rank + 1 = ap (λ c. rank_past (cited_row given c)) cites ∙ ap rank_past found in
           omega arith
       by_place (inr le) = let nothing : cite_for row k ≡ Nothing = get_or_past row.cites k Nothing (omega arith) in absurd (let e : Nothing ≡ Slot slot = sym nothing ∙ cites in cc)
 

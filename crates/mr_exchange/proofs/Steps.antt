@@ -8,7 +8,7 @@ use Rattle.mr_nogood.specs.Follows.{Rows}
 use Rattle.mr_exchange.specs.declared.ticket.Ticket.{Ticket}
 use Rattle.mr_exchange.specs.declared.event.Event.TheVariants.{Claim, OpenNode, LookAt, Publish}
 use Rattle.mr_exchange.specs.State.{Pass, State, spent, pass_at, IsLive, slots_of, latest_of, is_short, known_rows}
-use Rattle.mr_exchange.specs.Events.{IsNodeOf, MayClaim, MayOpen, MayLook, MayPublish, after, knowing, known_after, looked, published, with_row}
+use Rattle.mr_exchange.specs.Events.{IsNodeOf, MayClaim, MayOpen, MayLook, MayPublish, state_after, knowing, known_after, looked, published, with_row}
 use Rattle.mr_exchange.specs.Sound.{IsInTurn}
 use Rattle.mr_exchange.proofs.Balance.{times, once_below, Balances}
 use Rattle.mr_exchange.proofs.Totals.{total_at, lt_cases, eq_cases, bool_cases, next_one, no_more, once_yes, times_of}
@@ -113,7 +113,7 @@ claim_ends s k h may le = let p = pass_at s k in let mine = h.each k in record {
 }
 
 -- a claim keeps the balance
-pub claim_keeps : (s : State) (k : ℕ) → Balances s → MayClaim s k → Balances (after s (Claim k))
+pub claim_keeps : (s : State) (k : ℕ) → Balances s → MayClaim s k → Balances (state_after s (Claim k))
 claim_keeps s k h may = let p = pass_at s k in let within_ = within s.passes k may.live in
     lt_cases s.claim s.problem.cubes (λ b. Balances (record s { claim = s.claim + 1; passes = set s.passes k (if b then record p { cubes = p.cubes ++ s.claim ∷ [] } else record p { claim_ends = p.claim_ends + 1 }) }))
     (λ lt. alters s (s.claim + 1) s.ticket s.rows k (record p { cubes = p.cubes ++ s.claim ∷ [] }) h within_ (claim_gives s k h may lt))
@@ -190,13 +190,13 @@ open_ends s k node h may le = let p = pass_at s k in let mine = h.each k in reco
 }
 
 -- an opening keeps the balance
-pub open_keeps : (s : State) (k : ℕ) (node : List ℕ) → Balances s → MayOpen s k node → Balances (after s (OpenNode k node))
+pub open_keeps : (s : State) (k : ℕ) (node : List ℕ) → Balances s → MayOpen s k node → Balances (state_after s (OpenNode k node))
 open_keeps s k node h may = let p = pass_at s k in let within_ = within s.passes k may.live in let t : Ticket = record { slot = s.ticket; node = node } in
     lt_cases s.ticket s.problem.nodes (λ b. Balances (record s { ticket = s.ticket + 1; passes = set s.passes k (if b then record p { tickets = p.tickets ++ t ∷ [] } else record p { ticket_ends = p.ticket_ends + 1 }) }))
     (λ lt. alters s s.claim (s.ticket + 1) s.rows k (record p { tickets = p.tickets ++ t ∷ [] }) h within_ (open_gives s k node h may lt))
     (λ le. alters s s.claim (s.ticket + 1) s.rows k (record p { ticket_ends = p.ticket_ends + 1 }) h within_ (open_ends s k node h may le))
 
--- what is known after a look has rows
+-- what is known state_after a look has rows
 known_after_some : (rows : Rows) (slot : ℕ) (known : List ℕ) → ((t : ℕ) → Contains known t → IsSome (rows t)) → (t : ℕ) → Contains (known_after slot (rows slot) known) t → IsSome (rows t)
 known_after_some rows slot known h t = read (rows slot) refl
   where
@@ -244,7 +244,7 @@ look_alters s k h may = let p = pass_at s k in let mine = h.each k in let turn =
 }
 
 -- a look keeps the balance
-pub look_keeps : (s : State) (k : ℕ) → Balances s → MayLook s k → Balances (after s (LookAt k))
+pub look_keeps : (s : State) (k : ℕ) → Balances s → MayLook s k → Balances (state_after s (LookAt k))
 look_keeps s k h may = alters s s.claim s.ticket s.rows k (looked s.problem.nodes s.rows (pass_at s k)) h (within s.passes k may.live) (look_alters s k h may)
 
 -- a publication
@@ -279,5 +279,5 @@ publish_alters s k slot row h may = let p = pass_at s k in let mine = h.each k i
     }
 
 -- a publication keeps the balance
-pub publish_keeps : (s : State) (k slot : ℕ) (row : Row) → Balances s → MayPublish s k slot row → Balances (after s (Publish k slot row))
+pub publish_keeps : (s : State) (k slot : ℕ) (row : Row) → Balances s → MayPublish s k slot row → Balances (state_after s (Publish k slot row))
 publish_keeps s k slot row h may = alters s s.claim s.ticket (with_row s.rows slot row) k (published slot (pass_at s k)) h (within s.passes k may.live) (publish_alters s k slot row h may)

@@ -16,7 +16,7 @@ use Rattle.mr_exchange.specs.Cubes.{values_at, cube_at, IsProblemOf}
 use Rattle.mr_exchange.specs.Events.{IsNodeOf}
 use Rattle.mr_exchange.specs.Board.{Holding, new_holding, CanOpen, GainsCube}
 use Rattle.mr_exchange.proofs.Lookups.{length-slots_of}
-use Rattle.mr_exchange.specs.Trial.{HasOne, LookedOn}
+use Rattle.mr_exchange.specs.Private.Trial.{HasOne, LookedOn}
 
 -- each field has a second element
 some_order : (g : Gf) → 1 < order g

@@ -7,7 +7,7 @@ use Rattle.mr_exchange.specs.declared.event.Look.{Look}
 use Rattle.mr_exchange.specs.declared.event.Reply.TheVariants.{Cube, Ticket as Drawn, Seen}
 use Rattle.mr_exchange.specs.Cubes.{IsProblemOf}
 use Rattle.mr_exchange.specs.State.{State, pass_at, IsLive}
-use Rattle.mr_exchange.specs.Events.{MayClaim, MayOpen, MayLook, MayPublish, after, reply_of}
+use Rattle.mr_exchange.specs.Events.{MayClaim, MayOpen, MayLook, MayPublish, state_after, reply_of}
 use Rattle.mr_exchange.specs.Sound.{IsSound}
 use Rattle.mr_exchange.specs.Board.{holding_of, BoardFacts, CanOpen, CanPublish, Claimed, Opened, Looked, Published}
 
@@ -19,10 +19,10 @@ pub record ActsAsBoard (s : State) (k : ℕ) : Type 0 where
   pub can_open : (node : List ℕ) → MayOpen s k node ↔ CanOpen (holding_of s k) node
   pub can_look : MayLook s k ↔ ((holding_of s k).tickets ≢ [])
   pub can_publish : (slot : ℕ) (row : Row) → MayPublish s k slot row ↔ CanPublish (holding_of s k) slot row
-  pub claim : (cube : Option ℕ) → MayClaim s k → reply_of s (Claim k) ≡ Cube cube → Claimed (holding_of s k) cube (holding_of (after s (Claim k)) k)
-  pub opening : (node : List ℕ) (ticket : Option ℕ) → MayOpen s k node → reply_of s (OpenNode k node) ≡ Drawn ticket → Opened (holding_of s k) node ticket (holding_of (after s (OpenNode k node)) k)
-  pub look : (look : Look) → MayLook s k → reply_of s (LookAt k) ≡ Seen look → Looked (holding_of s k) look (holding_of (after s (LookAt k)) k)
-  pub publication : (slot : ℕ) (row : Row) → MayPublish s k slot row → Published (holding_of s k) slot row (holding_of (after s (Publish k slot row)) k)
+  pub claim : (cube : Option ℕ) → MayClaim s k → reply_of s (Claim k) ≡ Cube cube → Claimed (holding_of s k) cube (holding_of (state_after s (Claim k)) k)
+  pub opening : (node : List ℕ) (ticket : Option ℕ) → MayOpen s k node → reply_of s (OpenNode k node) ≡ Drawn ticket → Opened (holding_of s k) node ticket (holding_of (state_after s (OpenNode k node)) k)
+  pub look : (look : Look) → MayLook s k → reply_of s (LookAt k) ≡ Seen look → Looked (holding_of s k) look (holding_of (state_after s (LookAt k)) k)
+  pub publication : (slot : ℕ) (row : Row) → MayPublish s k slot row → Published (holding_of s k) slot row (holding_of (state_after s (Publish k slot row)) k)
 
 -- so it is with each live pass of a sound state that joined no other
 abbrev pub PassesActAsBoards : Type 0

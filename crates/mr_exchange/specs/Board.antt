@@ -1,5 +1,5 @@
 -- One pass's side of a board, and what its calls change and answer.
-use Rattle.std.specs.Prelude.{◌≡◌, ℕ, ◌+◌, ◌-◌, ◌*◌, ◌/◌, ◌^◌, ◌<◌, ◌≤◌, min, List, [], ◌∷◌, ◌++◌, length, ◌==◌, if◌then◌else◌, count_by, Option, Some, None, Contains}
+use Rattle.std.specs.Prelude.{◌≡◌, ℕ, ◌+◌, ◌-◌, ◌*◌, ◌/◌, ◌^◌, ◌<◌, ◌≤◌, min, List, [], ◌∷◌, ◌++◌, length, ◌==◌, if◌then◌else◌, count_by, slice_index, Option, Some, None, Contains}
 use Rattle.mr_assign.specs.Assign.{IsPartOf}
 use Rattle.mr_frame.specs.Frame.{Framed, IsFrame}
 use Rattle.mr_frame.specs.Test.{IsAssignmentOf}
@@ -60,6 +60,7 @@ pub record IsKnownRow (h : Holding) (slot : ℕ) (row : Row) : Type 0 where
   pub excludes : Excludes h.frame row
   pub clause : IsAssignmentOf h.frame row.clause
   pub position : row.at < length h.frame.places
+  pub no_value : slice_index row.clause row.at ≡ 0
   pub rank : row.rank < h.problem.nodes
   pub in_range : slot < h.problem.nodes
 
@@ -158,8 +159,8 @@ Looked h Long after = SeesLong h after
 Looked h (Short slot row) after = SeesShort h slot row after
 
 -- how many pairs a head shows
-abbrev pub pairs_of : ℕ → ℕ
-pairs_of head = (head - 2 ^ 63) / 2 ^ 40
+abbrev pub pairs_shown : ℕ → ℕ
+pairs_shown head = (head - 2 ^ 63) / 2 ^ 40
 
 -- what a publication changes: the row becomes known
 abbrev pub Published : Holding → ℕ → Row → Holding → Type 0

@@ -62,13 +62,13 @@ pub record MayJoin (s : State) (k : ℕ) : Type 0 where
   pub other : k ≢ 0
 
 -- the state allows the event
-abbrev pub IsAllowed : State → Event → Type 0
-IsAllowed s (Claim k) = MayClaim s k
-IsAllowed s (OpenNode k node) = MayOpen s k node
-IsAllowed s (LookAt k) = MayLook s k
-IsAllowed s (Publish k slot row) = MayPublish s k slot row
-IsAllowed s Split = (pass_at s 0).made < s.limit
-IsAllowed s (Join k) = MayJoin s k
+abbrev pub IsAllowedEvent : State → Event → Type 0
+IsAllowedEvent s (Claim k) = MayClaim s k
+IsAllowedEvent s (OpenNode k node) = MayOpen s k node
+IsAllowedEvent s (LookAt k) = MayLook s k
+IsAllowedEvent s (Publish k slot row) = MayPublish s k slot row
+IsAllowedEvent s Split = (pass_at s 0).made < s.limit
+IsAllowedEvent s (Join k) = MayJoin s k
 
 -- the slots that are known, and this one
 abbrev pub knowing : ℕ → List ℕ → List ℕ
@@ -88,13 +88,13 @@ opened nodes word node p =
     then record p { tickets = p.tickets ++ record { slot = word; node = node } ∷ [] }
     else record p { ticket_ends = p.ticket_ends + 1 }
 
--- the slots that are known after a look at this one
+-- the slots that are known state_after a look at this one
 abbrev pub known_after : ℕ → Option Row → List ℕ → List ℕ
 known_after slot None known = known
 known_after slot (Some row) known = if is_short row then knowing slot known else known
 
 -- A pass that looked at the slot at its cursor. The count of looks rests where no more can be due, and the cursor goes back
--- to 0 after the latest ticket.
+-- to 0 state_after the latest ticket.
 abbrev pub looked : ℕ → Rows → Pass → Pass
 looked nodes rows p = record p {
   known = known_after p.cursor (rows p.cursor) p.known;
@@ -126,16 +126,16 @@ with_row rows slot row other = if other == slot then Some row else rows other
 abbrev pub with_pass : State → ℕ → Pass → State
 with_pass s k p = record s { passes = slice_set s.passes k p }
 
--- the state after an event that is allowed
-abbrev pub after : State → Event → State
-after s (Claim k) = record s { claim = s.claim + 1; passes = slice_set s.passes k (claimed s.problem.cubes s.claim (pass_at s k)) }
-after s (OpenNode k node) = record s { ticket = s.ticket + 1; passes = slice_set s.passes k (opened s.problem.nodes s.ticket node (pass_at s k)) }
-after s (LookAt k) = with_pass s k (looked s.problem.nodes s.rows (pass_at s k))
-after s (Publish k slot row) = record s { passes = slice_set s.passes k (published slot (pass_at s k)); rows = with_row s.rows slot row }
-after s Split =
+-- the state state_after an event that is allowed
+abbrev pub state_after : State → Event → State
+state_after s (Claim k) = record s { claim = s.claim + 1; passes = slice_set s.passes k (claimed s.problem.cubes s.claim (pass_at s k)) }
+state_after s (OpenNode k node) = record s { ticket = s.ticket + 1; passes = slice_set s.passes k (opened s.problem.nodes s.ticket node (pass_at s k)) }
+state_after s (LookAt k) = with_pass s k (looked s.problem.nodes s.rows (pass_at s k))
+state_after s (Publish k slot row) = record s { passes = slice_set s.passes k (published slot (pass_at s k)); rows = with_row s.rows slot row }
+state_after s Split =
     let first = pass_at s 0 in
     record s { passes = slice_set s.passes 0 (record first { made = first.made + 1 }) ++ new_pass first.made ∷ [] }
-after s (Join k) = with_pass (with_pass s 0 (joins (pass_at s 0) (pass_at s k))) k spent
+state_after s (Join k) = with_pass (with_pass s 0 (joins (pass_at s 0) (pass_at s k))) k spent
 
 -- what a look at a slot shows
 abbrev pub seen : ℕ → Option Row → Look
@@ -151,10 +151,10 @@ reply_of s (Publish k slot row) = Done
 reply_of s Split = Done
 reply_of s (Join k) = Done
 
--- the events are allowed one after another, and lead from s to t
+-- the events are allowed one state_after another, and lead from s to t
 abbrev pub Replays : State → List Event → State → Type 0
 Replays s [] t = t ≡ s
-Replays s (e ∷ es) t = IsAllowed s e × Replays (after s e) es t
+Replays s (e ∷ es) t = IsAllowedEvent s e × Replays (state_after s e) es t
 
 -- the events before this place are allowed, and the one at it isn't
 pub record IsFirstRefused (s : State) (es : List Event) (place : ℕ) : Type 0 where
@@ -162,4 +162,4 @@ pub record IsFirstRefused (s : State) (es : List Event) (place : ℕ) : Type 0 w
   pub reached : State
   pub at : slice_get es place ≡ Some event
   pub before : Replays s (take place es) reached
-  pub refused : ¬ (IsAllowed reached event)
+  pub refused : ¬ (IsAllowedEvent reached event)

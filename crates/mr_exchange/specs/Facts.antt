@@ -27,7 +27,9 @@ pub record IsWhole (s : State) (p : Pass) : Type 0 where
   pub rows : (slot : ℕ) → IsSome (s.rows slot) ↔ Contains p.known slot
 
 -- Its cubes and its tickets are different numbers, each given out and in range. A slot that it knows has a row. A slot of
--- its own has a row just where it knows it. The first pass has the whole where each other pass was joined into it.
+-- its own has a row just where it knows it. The passes that were joined into it are different ones that were made, and none
+-- of them is the first; it was told at most once that nothing is left, and once more for each of them. The first pass has
+-- the whole where each other pass was joined into it.
 pub record PassFacts (s : State) (p : Pass) : Type 0 where
   pub cubes : (c : ℕ) → Contains p.cubes c → c < min s.claim s.problem.cubes
   pub cubes_once : (c : ℕ) → count_by (λ x. x == c) p.cubes ≤ 1
@@ -41,4 +43,8 @@ pub record PassFacts (s : State) (p : Pass) : Type 0 where
   pub known : (slot : ℕ) → Contains p.known slot → HasKnownRow s slot
   pub drawn : (slot : ℕ) → Contains p.known slot → slot < min s.ticket s.problem.nodes
   pub own : (slot : ℕ) → Contains (slots_of p.tickets) slot → IsSome (s.rows slot) ↔ Contains p.known slot
+  pub joined : (k : ℕ) → Contains p.joined k → (1 ≤ k) × (k < p.made)
+  pub joined_once : (k : ℕ) → count_by (λ x. x == k) p.joined ≤ 1
+  pub claim_ends : p.claim_ends ≤ 1 + length p.joined
+  pub ticket_ends : p.ticket_ends ≤ 1 + length p.joined
   pub whole : p.number ≡ 0 → 1 + length p.joined ≡ p.made → IsWhole s p

@@ -1,13 +1,10 @@
 -- A state as the program holds it: with the list of what each slot has.
-use Rattle.std.specs.Prelude.{◌≡◌, ℕ, ◌≤◌, List, length, Option}
+use Rattle.std.specs.Prelude.{ℕ, List, Option}
 use Rattle.mr_frame.specs.Frame.{Framed}
 use Rattle.mr_nogood.specs.declared.row.Row.{Row}
 use Rattle.mr_nogood.specs.Follows.{in_slots}
-use Rattle.mr_exchange.specs.declared.TheConstants.{PASSES}
 use Rattle.mr_exchange.specs.declared.problem.Problem.{Problem}
-use Rattle.mr_exchange.specs.Cubes.{IsProblemOf}
 use Rattle.mr_exchange.specs.State.{Pass, State}
-use Rattle.mr_exchange.specs.Sound.{IsSound}
 
 -- the parts of a state, its rows as a list
 pub record Held : Type 0 where
@@ -22,13 +19,6 @@ pub record Held : Type 0 where
 -- the state that is held
 abbrev pub state_of : Held → State
 state_of h = record { frame = h.frame; problem = h.problem; limit = h.limit; claim = h.claim; ticket = h.ticket; passes = h.passes; rows = in_slots h.slots }
-
--- the state is sound, its problem is one of its frame, few passes may be made, and there is a slot for each node
-pub record IsHeld (h : Held) : Type 0 where
-  pub sound : IsSound (state_of h)
-  pub problem : IsProblemOf h.frame h.problem
-  pub limit : h.limit ≤ PASSES
-  pub slots : length h.slots ≡ h.problem.nodes
 
 -- the value of the fields
 abbrev pub held : Framed → Problem → ℕ → ℕ → ℕ → List Pass → List (Option Row) → Held

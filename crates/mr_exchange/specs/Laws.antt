@@ -10,7 +10,7 @@ use Rattle.mr_exchange.specs.declared.event.Event.{Event}
 use Rattle.mr_exchange.specs.declared.event.Event.TheVariants.{OpenNode}
 use Rattle.mr_exchange.specs.Cubes.{IsCube, cube_at, cube_count}
 use Rattle.mr_exchange.specs.State.{State, new_state, pass_at, IsLive, IsShort}
-use Rattle.mr_exchange.specs.Events.{IsAllowed, after, Replays}
+use Rattle.mr_exchange.specs.Events.{IsAllowedEvent, state_after, Replays}
 use Rattle.mr_exchange.specs.Sound.{IsSound}
 use Rattle.mr_exchange.specs.Facts.{PassFacts}
 
@@ -30,7 +30,7 @@ NewStatesAreSound = (f : Framed) (problem : Problem) (limit : ℕ) → 1 ≤ lim
 
 -- an event that is allowed leads from a sound state to a sound one
 abbrev pub AllowedEventsKeepSoundness : Type 0
-AllowedEventsKeepSoundness = (s : State) (e : Event) → IsSound s → IsAllowed s e → IsSound (after s e)
+AllowedEventsKeepSoundness = (s : State) (e : Event) → IsSound s → IsAllowedEvent s e → IsSound (state_after s e)
 
 -- whatever the events, the state that they lead to is sound
 abbrev pub ReachedStatesAreSound : Type 0
@@ -50,7 +50,7 @@ RowsStay = (s : State) (es : List Event) (t : State) (slot : ℕ) (row : Row) �
 
 -- no pass opens a node that has the clause of a short row that it knows
 abbrev pub KnownRowsStayOutOfNodes : Type 0
-KnownRowsStayOutOfNodes = (s : State) (k : ℕ) (node : List ℕ) (slot : ℕ) (row : Row) → IsAllowed s (OpenNode k node) → Contains (pass_at s k).known slot → s.rows slot ≡ Some row → IsShort row → ¬ (IsPartOf row.clause node)
+KnownRowsStayOutOfNodes = (s : State) (k : ℕ) (node : List ℕ) (slot : ℕ) (row : Row) → IsAllowedEvent s (OpenNode k node) → Contains (pass_at s k).known slot → s.rows slot ≡ Some row → IsShort row → ¬ (IsPartOf row.clause node)
 
 -- a list of events leads to one state
 abbrev pub EventsLeadToOneState : Type 0

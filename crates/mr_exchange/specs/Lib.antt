@@ -5,10 +5,10 @@ pub mod Events
 pub mod Sound
 pub mod Facts
 pub mod Board
+pub mod Right
 pub mod Acting
 pub mod Closed
 pub mod Plain
-pub mod Trial
 pub mod Laws
 pub mod Held
-pub mod Deciding
+pub mod Private

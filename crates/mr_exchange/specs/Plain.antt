@@ -1,15 +1,13 @@
 -- A board for one pass.
-use Rattle.std.specs.Prelude.{◌≡◌, ℕ, ◌<◌, List, [], length, Option}
+use Rattle.std.specs.Prelude.{◌≡◌, ℕ, ◌<◌, List, length, Option}
 use Rattle.mr_set.specs.Elements.{numbers_below}
-use Rattle.mr_frame.specs.Frame.{Framed, IsFrame}
+use Rattle.mr_frame.specs.Frame.{Framed}
 use Rattle.mr_nogood.specs.declared.row.Row.{Row}
 use Rattle.mr_nogood.specs.Follows.{in_slots}
 use Rattle.mr_exchange.specs.declared.problem.Problem.{Problem}
 use Rattle.mr_exchange.specs.declared.ticket.Ticket.{Ticket}
-use Rattle.mr_exchange.specs.Cubes.{IsProblemOf}
-use Rattle.mr_exchange.specs.State.{Pass, State, pass_at, slots_of}
-use Rattle.mr_exchange.specs.Sound.{IsSound}
-use Rattle.mr_exchange.specs.Board.{Holding, holding_in}
+use Rattle.mr_exchange.specs.State.{slots_of}
+use Rattle.mr_exchange.specs.Board.{Holding}
 
 -- what such a board has: all that its pass has, and the rows by their slots
 pub record PlainIs : Type 0 where
@@ -55,25 +53,8 @@ plain_holding p = record {
 }
 
 -- its cubes and its tickets are the numbers from 0 on, in order, and all of them where it was told that none is left
-pub record IsInOrder (h : Holding) : Type 0 where
+pub record IsPlainPass (h : Holding) : Type 0 where
   pub cubes : h.cubes ≡ numbers_below (length h.cubes)
   pub all_cubes : 0 < h.claim_ends → length h.cubes ≡ h.problem.cubes
   pub tickets : slots_of h.tickets ≡ numbers_below (length h.tickets)
   pub all_tickets : 0 < h.ticket_ends → length h.tickets ≡ h.problem.nodes
-
--- what a pass of a state has, and all rows of the state
-abbrev pub whole_in : State → Pass → Holding
-whole_in s p = record (holding_in s p) { known = s.rows }
-
--- what is kept of it: it is the one pass of a sound state of the frame and the problem, and its numbers are in order
-pub record IsPlain (p : PlainIs) : Type 0 where
-  pub state : State
-  pub sound : IsSound state
-  pub alone : (pass_at state 0).joined ≡ []
-  pub one : (pass_at state 0).made ≡ 1
-  pub is : whole_in state (pass_at state 0) ≡ plain_holding p
-  pub frame : IsFrame p.frame
-  pub problem : IsProblemOf p.frame p.problem
-  pub size : length p.rows ≡ p.problem.nodes
-  pub cubes : p.cubes ≡ numbers_below (length p.cubes)
-  pub tickets : slots_of p.tickets ≡ numbers_below (length p.tickets)

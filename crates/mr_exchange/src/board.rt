@@ -1,6 +1,6 @@
 ghost use Rattle.std.specs.Prelude.{◌≡◌, ◌≢◌, ◌↔◌, ◌<◌, []};
 ghost use Rattle.mr_exchange.specs.declared.TheConstants.{SHORT};
-ghost use Rattle.mr_exchange.specs.Board.{Holding, BoardFacts, CanOpen, CanPublish, Claimed, Opened, Looked, Published, pairs_of};
+ghost use Rattle.mr_exchange.specs.Board.{Holding, BoardFacts, CanOpen, CanPublish, Claimed, Opened, Looked, Published, pairs_shown};
 ghost use Rattle.mr_exchange.specs.Acting.{PassesActAsBoards};
 
 use crate::{Look, Problem};
@@ -48,7 +48,7 @@ pub trait Board {
         ensures moves { Looked (holding self.old) result (holding self.new) }
         // The head that was loaded decides.
         ensures empty { (result ≡ Look.Empty) ↔ ((holding self.new).last_head ≡ 0) }
-        ensures long { (result ≡ Look.Long) ↔ (SHORT < pairs_of (holding self.new).last_head) }
+        ensures long { (result ≡ Look.Long) ↔ (SHORT < pairs_shown (holding self.new).last_head) }
         ensures mark { mark self.new ≡ mark self.old };
 
     /// Publishes a row in a slot of the pass's own.

@@ -1,17 +1,17 @@
-ghost use Rattle.std.specs.Prelude.{◌≡◌, ◌≢◌, ◌↔◌, ◌+◌, ◌*◌, ◌<◌, ◌≤◌, ◌==◌, if◌then◌else◌, [], length, min, IfOk, IfSome, option_copied};
+ghost use Rattle.std.specs.Prelude.{◌≡◌, ◌≢◌, ◌↔◌, ◌+◌, ◌*◌, ◌^◌, ◌<◌, ◌≤◌, ◌==◌, if◌then◌else◌, [], length, min, IfOk, IfSome, IsNone, option_copied};
 ghost use Rattle.mr_nogood.specs.Row.{IsRow};
 ghost use Rattle.mr_exchange.specs.declared.TheConstants.{SHORT, LOOKS, NODES};
 ghost use Rattle.mr_exchange.specs.Cubes.{IsProblemOf};
 ghost use Rattle.mr_exchange.specs.State.{head_at};
 ghost use Rattle.mr_exchange.specs.Events.{seen};
-ghost use Rattle.mr_exchange.specs.Board.{Holding, new_holding, BoardFacts, CanOpen, CanPublish, Claimed, Opened, Looked, Published, pairs_of};
+ghost use Rattle.mr_exchange.specs.Board.{Holding, new_holding, BoardFacts, CanOpen, CanPublish, Claimed, Opened, Looked, Published, pairs_shown};
 ghost use Rattle.mr_exchange.specs.Closed.{closed_is};
-ghost use Rattle.mr_exchange.specs.Plain.{PlainIs, plain_holding, IsInOrder};
+ghost use Rattle.mr_exchange.specs.Plain.{PlainIs, plain_holding, IsPlainPass};
 
 use crate::{Board, Closed, LOOKS, Look, Problem, SHORT, SlotList, Ticket};
 use mr_assign::Assign;
 use mr_frame::Frame;
-use mr_nogood::{Row, pack};
+use mr_nogood::{Row, head_of};
 use std::alloc::{AllocError, Global};
 use std::marker::Model;
 
@@ -32,7 +32,8 @@ pub struct PlainBoard<'f> {
 
 impl<'f> Model for PlainBoard<'f> {
     ghost use Rattle.std.specs.Prelude.{◌≤◌, vec_capacity};
-    ghost use Rattle.mr_exchange.specs.Plain.{PlainIs, plain_is, IsPlain};
+    ghost use Rattle.mr_exchange.specs.Plain.{PlainIs, plain_is};
+    ghost use Rattle.mr_exchange.specs.Private.Plain.{IsPlain};
 
     ghost Value = { PlainIs };
 
@@ -103,12 +104,17 @@ impl<'f> Board for PlainBoard<'f> {
     fn problem(&self) -> Problem
         ensures problem { result ≡ (plain_holding self.now).problem }
         ensures facts { BoardFacts (plain_holding self.now) }
-        ensures order { IsInOrder (plain_holding self.now) }
+        ensures order { IsPlainPass (plain_holding self.now) }
     {
         self.problem
     }
 
-    fn claim(&mut self) -> Option<u32> {
+    fn claim(&mut self) -> Option<u32>
+        requires { (plain_holding self.old).claim_ends ≡ 0 }
+        ensures moves { Claimed (plain_holding self.old) result (plain_holding self.new) }
+        // None is answered just where all cubes were claimed.
+        ensures none { IsNone result ↔ (length (plain_holding self.old).cubes ≡ (plain_holding self.old).problem.cubes) }
+    {
         let cube = self.cubes.len() as u32;
         if cube < self.problem.cubes {
             self.cubes.push_reserved(cube);
@@ -119,7 +125,12 @@ impl<'f> Board for PlainBoard<'f> {
         }
     }
 
-    fn open_node(&mut self, node: &Assign) -> Option<u32> {
+    fn open_node(&mut self, node: &Assign) -> Option<u32>
+        requires { CanOpen (plain_holding self.old) node.now }
+        ensures moves { Opened (plain_holding self.old) node.now result (plain_holding self.new) }
+        // None is answered just where all tickets were drawn.
+        ensures none { IsNone result ↔ (length (plain_holding self.old).tickets ≡ (plain_holding self.old).problem.nodes) }
+    {
         let slot = self.tickets.len() as u32;
         if slot < self.problem.nodes {
             self.tickets.push_reserved(Ticket { slot, node: *node });
@@ -165,10 +176,10 @@ fn next_slot(slot: u32, latest: u32) -> u32
 // The head of a slot.
 fn head_at(found: Option<&Row>) -> u64
     ensures head { result ≡ head_at (option_copied found.entry) }
-    ensures row { IfSome (option_copied found.entry) IsRow }
+    ensures row { IfSome (option_copied found.entry) (λ row. (row.rank < 2 ^ 32) × (row.at < 2 ^ 8)) }
 {
     match found {
-        Some(row) => pack(row)[0],
+        Some(row) => head_of(row),
         None => 0,
     }
 }

@@ -3,7 +3,7 @@ ghost use Rattle.mr_nogood.specs.Follows.{in_slots};
 ghost use Rattle.mr_exchange.specs.declared.TheConstants.{PASSES};
 ghost use Rattle.mr_exchange.specs.Cubes.{IsProblemOf};
 ghost use Rattle.mr_exchange.specs.State.{new_state};
-ghost use Rattle.mr_exchange.specs.Events.{IsAllowed, after, reply_of};
+ghost use Rattle.mr_exchange.specs.Events.{IsAllowedEvent, state_after, reply_of};
 ghost use Rattle.mr_exchange.specs.Sound.{IsSound};
 ghost use Rattle.mr_exchange.specs.declared.fault.StepFault.TheVariants.{NotAllowed};
 ghost use Rattle.mr_exchange.specs.Held.{state_of};
@@ -34,7 +34,8 @@ pub struct State {
 }
 
 impl Model for State {
-    ghost use Rattle.mr_exchange.specs.Held.{Held, held, IsHeld};
+    ghost use Rattle.mr_exchange.specs.Held.{Held, held};
+    ghost use Rattle.mr_exchange.specs.Private.Held.{IsHeld};
 
     ghost Value = { Held };
 
@@ -78,12 +79,12 @@ impl State {
         requires { self.old.frame ≡ frame.now }
 
         // The event is allowed, and has the answer and changes what it is said to.
-        ensures allowed { OnOk result (IsAllowed (state_of self.old) e.now) }
+        ensures allowed { OnOk result (IsAllowedEvent (state_of self.old) e.now) }
         ensures reply { IfOk result (λ reply. reply ≡ reply_of (state_of self.old) e.now) }
-        ensures after { OnOk result (state_of self.new ≡ after (state_of self.old) e.now) }
+        ensures after { OnOk result (state_of self.new ≡ state_after (state_of self.old) e.now) }
 
         // A refused event is one that isn't allowed.
-        ensures not_allowed { IsErrOf result NotAllowed → ¬ (IsAllowed (state_of self.old) e.now) }
+        ensures not_allowed { IsErrOf result NotAllowed → ¬ (IsAllowedEvent (state_of self.old) e.now) }
         ensures err { OnErr result (self.new ≡ self.old) }
 
         // Whatever the result, the state is a sound one of the same frame.

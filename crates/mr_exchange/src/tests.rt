@@ -1,7 +1,4 @@
-ghost use Rattle.std.specs.Prelude.{◌≡◌, ◌↔◌, IsTrue, All};
-ghost use Rattle.std.specs.List.{AllByRecursion};
-ghost use Rattle.std.specs.List.Sorted.{IsStrictlySortedBy};
-ghost use Rattle.mr_set.specs.Subsets.{IsSetOf, IsBefore, list_cmp};
+ghost use Rattle.std.specs.Prelude.{◌≡◌};
 
 use crate::{Event, Look, Problem, ReplayFault, Reply, State, StepFault, cube_at, replay};
 use mr_assign::Assign;
@@ -9,7 +6,7 @@ use mr_field::Field;
 use mr_frame::Frame;
 use mr_matroid::Matroid;
 use mr_nogood::{Cite, Row};
-use mr_set::{Set, elements, is_before};
+use mr_set::{Set, are_sets_of};
 use std::alloc::Global;
 use std::test::Fail;
 
@@ -17,43 +14,6 @@ use std::test::Fail;
 const LINES: [u64; 7] = [
     0b0001011, 0b0010101, 0b1100001, 0b0100110, 0b1010010, 0b1001100, 0b0111000,
 ];
-
-// Whether the set has r elements, all below n.
-fn is_set_of(n: u32, r: u32, x: Set) -> bool
-    ensures { IsTrue result ↔ IsSetOf n r x }
-{
-    // The clauses of `mask` say that the elements stand in order.
-    let _mask = x.mask();
-    x.len() == r && elements(x).as_slice().iter().all(|e| *e < n)
-}
-
-// Whether the set stands before all the others.
-fn is_before_all(x: Set, others: &[Set]) -> bool
-    ensures { IsTrue result → AllByRecursion (IsBefore x) others.now }
-{
-    match others.split_first() {
-        None => true,
-        Some(parts) => is_before(x, *parts.0) && is_before_all(x, parts.1),
-    }
-}
-
-// Whether these are sets of r elements below n, in order.
-fn are_sets_of(n: u32, r: u32, sets: &[Set]) -> bool
-    ensures { IsTrue result → All (IsSetOf n r) sets.now × IsStrictlySortedBy list_cmp sets.now }
-{
-    match sets.split_first() {
-        None => true,
-        Some(parts) => {
-            if !is_set_of(n, r, *parts.0) {
-                return false;
-            }
-            if !is_before_all(*parts.0, parts.1) {
-                return false;
-            }
-            are_sets_of(n, r, parts.1)
-        }
-    }
-}
 
 // The frame of the Fano plane over three elements. Its free positions are those of row 1 and element 6, of
 // row 2 and element 5, and of row 2 and element 6.

@@ -3,19 +3,20 @@ use Rattle.std.proofs.Common.{◌≡◌, ℕ, ◌-◌, ◌≤◌, List, [], ◌�
 use Rattle.std.specs.Prelude.{MatchResult, IfOk, IfErr}
 use Rattle.std.proofs.lemmas.List.{drop_at, take-append-drop}
 use Rattle.mr_set.specs.Matroid.{Presentation, IsMatroid}
-use Rattle.mr_matroid.specs.Answers.{IsVerdict}
+use Rattle.mr_matroid.specs.Answers.{IsMatroidVerdict}
 use Rattle.mr_matroid.specs.declared.fault.MatroidFault.{MatroidFault}
 use Rattle.mr_matroid.specs.declared.fault.MatroidFault.TheVariants as matroid
 use Rattle.mr_text.specs.Format.{FirstFault, StandsFor, IsTextOf, IsFirstFault, IsFirstFaultOf}
 use Rattle.mr_file.specs.declared.fault.Measure.{Measure}
 use Rattle.mr_text.proofs.Formats.{front_of}
-use Rattle.mr_file.specs.Reading.{Names, IsRefused, IsRefusal, IsFileRefusal, IsPartRefusal, as_file_fault, whole_file}
+use Rattle.mr_file.specs.Reading.{Names, IsRefused, IsRefusal, IsFileRefusal, IsPartRefusal, whole_file}
+use Rattle.mr_file.specs.Private.Reading.{as_file_fault}
 use Rattle.mr_file.specs.Part.{IsPart}
 use Rattle.mr_file.specs.declared.fault.FileFault.{FileFault}
 use Rattle.mr_file.specs.declared.fault.FileFault.TheVariants.{Grammar, Size, NoBasis, Exchange, Memory}
 
 -- a refusal of the matroid's maker is one of the file
-pub refused : (m : Presentation) (fault : MatroidFault) → IsVerdict m (Err fault) → IsRefused m (as_file_fault fault)
+pub refused : (m : Presentation) (fault : MatroidFault) → IsMatroidVerdict m (Err fault) → IsRefused m (as_file_fault fault)
 refused m matroid.NoBasis h = h
 refused m (matroid.Exchange b1 b2 x) h = h
 refused m matroid.Memory h = h

@@ -9,7 +9,8 @@ use Rattle.mr_text.specs.Tables.{never, fixed, keyed}
 use Rattle.mr_text.proofs.Formats.{fault_under}
 use Rattle.mr_text.proofs.Leads.{Leads, leads_on, leads_fault}
 use Rattle.mr_file.specs.File.{ElementsExceed, RankExceeds, CountExceeds, set_table, set_lines}
-use Rattle.mr_file.specs.Reading.{Names, end_line, from_sets}
+use Rattle.mr_file.specs.Reading.{Names}
+use Rattle.mr_file.specs.Private.Reading.{end_line, from_sets}
 use Rattle.mr_file.specs.declared.fault.Measure.{Measure}
 use Rattle.mr_file.specs.declared.fault.Measure.TheVariants.{Elements, Rank, Sets, Nonbases}
 use Rattle.mr_file.specs.declared.fault.FileFault.{FileFault}

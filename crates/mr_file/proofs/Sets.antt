@@ -4,7 +4,7 @@ use Rattle.std.specs.Prelude.{codes, ◌<◌, ◌^◌, ◌↔◌, decimal}
 use Rattle.mr_set.specs.Elements.{is_element, with_element}
 use Rattle.mr_set.proofs.Sorted.{all_head, all_tail, all_cons, below_all, all_above, sorted_cons, sorted_parts, sorted_none, with_front}
 use Rattle.mr_text.specs.Text.{numbers_text}
-use Rattle.mr_file.specs.Numbers.{AreNumbersFrom, SpellsSet}
+use Rattle.mr_file.specs.Private.Numbers.{AreNumbersFrom, SpellsSet}
 use Rattle.mr_text.proofs.Formats.{same_parts, has_separator}
 use Rattle.mr_text.proofs.Decimals.{decimal_without}
 

@@ -1,30 +1,21 @@
 -- A line of a matroid file spells one value.
 use Rattle.std.proofs.Common.{◌≡◌, ℕ, zero, suc, ◌≤◌, List, [], ◌∷◌, ◌++◌, length, refl, sym, ap, ◌∙◌, arith, Option, Some, None, codes}
 use Rattle.std.specs.Prelude.{◌<◌, ◌^◌, All, decimal}
-use Rattle.std.specs.Str.Parse.{digits_value}
 use Rattle.std.proofs.lemmas.List.{append_cancel_left}
-use Rattle.std.proofs.lemmas.Fmt.{digits_value-decimal}
 use Rattle.mr_set.specs.Elements.{is_element}
 use Rattle.mr_set.specs.Subsets.{IsSetOf}
 use Rattle.mr_set.specs.declared.TheConstants.{ELEMENTS}
 use Rattle.mr_text.specs.Text.{numbers_text, set_text}
-use Rattle.mr_text.specs.Tables.{fixed, keyed}
-use Rattle.mr_text.specs.Sharp.{IsSharpTable, IsSharp}
-use Rattle.mr_text.proofs.Formats.{same_parts, has_separator}
-use Rattle.mr_text.proofs.Decimals.{own, decimal_without}
+use Rattle.mr_text.specs.Tables.{keyed}
+use Rattle.mr_text.specs.Private.Sharp.{IsSharpTable, IsSharp}
+use Rattle.mr_text.proofs.Formats.{same_parts, has_separator, fixed_sharp}
+use Rattle.mr_text.proofs.Decimals.{decimal_without, decimal_one}
 use Rattle.mr_file.specs.File.{ElementsExceed, RankExceeds, CountExceeds, set_lines}
-use Rattle.mr_file.specs.Reading.{from_sets, whole_file}
+use Rattle.mr_file.specs.Reading.{whole_file}
+use Rattle.mr_file.specs.Private.Reading.{from_sets}
 use Rattle.mr_file.specs.declared.fault.Measure.{Measure}
 use Rattle.mr_file.specs.declared.fault.Measure.TheVariants.{Elements, Rank, Sets, Nonbases}
 use Rattle.mr_file.proofs.Whole.{at_most}
-
--- a word spells one number
-decimal_one : (v w : ℕ) → v < 10 ^ 9 → w < 10 ^ 9 → decimal v ≡ decimal w → v ≡ w
-decimal_one v w p q same = sym (digits_value-decimal own v (omega arith)) ∙ ap (digits_value 10) same ∙ digits_value-decimal own w (omega arith)
-
--- a line of a fixed text
-fixed_sharp : {M : Type 0} (text : List ℕ) → IsSharpTable (fixed {M = M} text)
-fixed_sharp text = record { one_value = λ line a b p q. refl; one_measure = λ a m n p q. absurd p }
 
 -- a line of a key and a number
 keyed_sharp : (key : List ℕ) (exceeds : ℕ → Measure → Type 0) → ((v : ℕ) (m n : Measure) → exceeds v m → exceeds v n → m ≡ n) → IsSharpTable (keyed key exceeds)

@@ -17,7 +17,8 @@ use Rattle.mr_file.proofs.Outcomes.{elements_fit, rank_fits, count_fits}
 use Rattle.mr_text.specs.Format.{IsLineOf, StandsFor}
 use Rattle.mr_text.specs.Tables.{fixed, keyed}
 use Rattle.mr_file.specs.File.{ElementsExceed, RankExceeds, CountExceeds, set_lines, file_text}
-use Rattle.mr_file.specs.Reading.{from_sets, whole_file}
+use Rattle.mr_file.specs.Reading.{whole_file}
+use Rattle.mr_file.specs.Private.Reading.{from_sets}
 use Rattle.mr_file.specs.declared.fault.Measure.{Measure}
 use Rattle.mr_file.specs.declared.fault.Measure.TheVariants.{Elements, Rank, Sets}
 

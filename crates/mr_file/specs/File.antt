@@ -70,15 +70,6 @@ file_lines m =
 abbrev pub file_text : Presentation → List ℕ
 file_text m = text_of_lines (file_lines m)
 
--- the text before the sets
-abbrev pub head_text : Presentation → List ℕ
-head_text m =
-    text_of_lines (codes "matroid 1"
-    ∷ (codes "elements " ++ decimal m.elements)
-    ∷ (codes "rank " ++ decimal m.rank)
-    ∷ (codes "nonbases " ++ decimal (length m.nonbases))
-    ∷ [])
-
 -- the bytes are the file of the matroid m, which is within the limits
 pub record IsFileOf (bytes : List ℕ) (m : Presentation) : Type 0 where
   pub text : bytes ≡ file_text m

@@ -1,16 +1,13 @@
 -- What the readers of a matroid file answer.
-use Rattle.std.specs.Prelude.{ℕ, List, [], codes, Option, None}
+use Rattle.std.specs.Prelude.{ℕ, List}
 use Rattle.mr_set.specs.Matroid.{Presentation}
 use Rattle.mr_matroid.specs.Exchange.{HasNoBasis, IsFirstFailure}
-use Rattle.mr_text.specs.Format.{FirstFault, grammar, size, Format, done, line_of, IsFirstFault, StandsFor, IsTextOf, IsFirstFaultOf}
-use Rattle.mr_text.specs.Tables.{fixed, keyed}
-use Rattle.mr_file.specs.File.{ElementsExceed, RankExceeds, CountExceeds, set_lines, file}
+use Rattle.mr_text.specs.Format.{FirstFault, grammar, size, Format, done, IsFirstFault, StandsFor, IsTextOf, IsFirstFaultOf}
+use Rattle.mr_file.specs.File.{file}
 use Rattle.mr_file.specs.declared.fault.Measure.{Measure}
 use Rattle.mr_file.specs.declared.fault.FileFault.{FileFault}
 use Rattle.mr_file.specs.declared.fault.FileFault.TheVariants.{Grammar, Size, NoBasis, Exchange, Memory}
 use Rattle.mr_file.specs.declared.listed.Listed.{Listed}
-use Rattle.mr_matroid.specs.declared.fault.MatroidFault.{MatroidFault}
-use Rattle.mr_matroid.specs.declared.fault.MatroidFault.TheVariants as matroid
 
 -- the fault of a line that a refusal names; memory may run out
 abbrev pub Names : (FirstFault Measure → Type 0) → FileFault → Type 0
@@ -23,26 +20,6 @@ Names P Memory = Unit {0}
 -- the numbers and sets that were read
 abbrev pub listing : Listed → Presentation
 listing m = record { elements = m.elements; rank = m.rank; nonbases = m.nonbases.items }
-
--- what is due after the last set
-abbrev pub end_line : ℕ → ℕ → List (List ℕ) → Format Measure Presentation
-end_line n r sets = line_of (fixed (codes "end")) (λ _. done (record { elements = n; rank = r; nonbases = sets }))
-
--- after the number of nonbases, and after some sets
-abbrev pub from_sets : ℕ → ℕ → ℕ → List (List ℕ) → Option (List ℕ) → Format Measure Presentation
-from_sets n r count sets last = set_lines n r count sets last (end_line n r)
-
--- after the rank
-abbrev pub from_count : ℕ → ℕ → Format Measure Presentation
-from_count n r = line_of (keyed (codes "nonbases ") (CountExceeds n r)) (λ k. from_sets n r k [] None)
-
--- after the number of elements
-abbrev pub from_rank : ℕ → Format Measure Presentation
-from_rank n = line_of (keyed (codes "rank ") (RankExceeds n)) (λ r. from_count n r)
-
--- after the first line
-abbrev pub from_elements : Format Measure Presentation
-from_elements = line_of (keyed (codes "elements ") ElementsExceed) (λ n. from_rank n)
 
 -- the format that begins with the first line
 abbrev pub whole_file : Format Measure Presentation
@@ -71,9 +48,3 @@ IsFileRefusal bytes = IsRefusal (IsFirstFaultOf whole_file bytes) (IsTextOf whol
 -- a refusal of a file that begins a text, whose first line has this number
 abbrev pub IsPartRefusal : ℕ → List ℕ → FileFault → Type 0
 IsPartRefusal number bytes = IsRefusal (IsFirstFault whole_file number bytes) (λ m. (rest : List ℕ) × (next : ℕ) × StandsFor whole_file number bytes m rest next)
-
--- a matroid's refusal as that of its file
-abbrev pub as_file_fault : MatroidFault → FileFault
-as_file_fault matroid.NoBasis = NoBasis
-as_file_fault (matroid.Exchange b1 b2 x) = Exchange b1 b2 x
-as_file_fault matroid.Memory = Memory

@@ -1,7 +1,9 @@
 ghost use Rattle.std.specs.Prelude.{◌≡◌, ◌+◌, ◌<◌, ◌≤◌, ◌^◌, [], None, length, MatchResult};
+ghost use Rattle.mr_set.specs.declared.TheConstants.{ELEMENTS};
 ghost use Rattle.mr_set.specs.Subsets.{choose};
 ghost use Rattle.mr_text.specs.Format.{IsFirstFault, StandsFor};
-ghost use Rattle.mr_file.specs.Reading.{Names, listing, from_sets, from_count, from_rank, from_elements, whole_file};
+ghost use Rattle.mr_file.specs.Reading.{Names, listing, whole_file};
+ghost use Rattle.mr_file.specs.Private.Reading.{from_sets, from_count, from_rank, from_elements};
 
 use crate::fault::{FileFault, Measure};
 use crate::line::{fixed_line, keyed_line};
@@ -56,7 +58,7 @@ fn read_rank<'a>(
     elements: u32,
 ) -> Result<(Listed, &'a [u8], u32), FileFault>
     requires numbers { line_number + length bytes.now < 2 ^ 32 }
-    requires elements { elements ≤ 32 }
+    requires elements { elements ≤ ELEMENTS }
     ensures { MatchResult result (λ x. StandsFor (from_rank elements) line_number bytes.now (listing x.0) x.1.now x.2) (Names (IsFirstFault (from_rank elements) line_number bytes.now)) }
 {
     match keyed_line(bytes, line_number, b"rank ") {
@@ -91,7 +93,7 @@ fn read_count<'a>(
     most: u32,
 ) -> Result<(Listed, &'a [u8], u32), FileFault>
     requires numbers { line_number + length bytes.now < 2 ^ 32 }
-    requires elements { elements ≤ 32 }
+    requires elements { elements ≤ ELEMENTS }
     requires most { most ≡ choose elements rank }
     ensures { MatchResult result (λ x. StandsFor (from_count elements rank) line_number bytes.now (listing x.0) x.1.now x.2) (Names (IsFirstFault (from_count elements rank) line_number bytes.now)) }
 {
@@ -119,7 +121,7 @@ fn read_sets<'a>(
     count: u32,
 ) -> Result<(Listed, &'a [u8], u32), FileFault>
     requires numbers { line_number + length bytes.now < 2 ^ 32 }
-    requires elements { elements ≤ 32 }
+    requires elements { elements ≤ ELEMENTS }
     ensures { MatchResult result (λ x. StandsFor (from_sets elements rank count [] None) line_number bytes.now (listing x.0) x.1.now x.2) (Names (IsFirstFault (from_sets elements rank count [] None) line_number bytes.now)) }
 {
     let mut nonbases: Vec<Set> = Vec::new(alloc);

@@ -1,9 +1,10 @@
 ghost use Rattle.std.specs.Prelude.{◌≡◌, ◌↔◌, ◌<◌, ◌≤◌, ℕ, List, Some, IsTrue, IfSome, MatchResult};
+ghost use Rattle.mr_set.specs.declared.TheConstants.{ELEMENTS};
 ghost use Rattle.mr_set.specs.Subsets.{IsSetOf, IsBefore};
 ghost use Rattle.mr_text.specs.Format.{IsLineOf, IsLineFault};
 ghost use Rattle.mr_file.specs.File.{set_table};
 ghost use Rattle.mr_file.specs.Reading.{Names};
-ghost use Rattle.mr_file.specs.Numbers.{AreNumbersFrom, SpellsSet};
+ghost use Rattle.mr_file.specs.Private.Numbers.{AreNumbersFrom, SpellsSet};
 
 use crate::fault::FileFault;
 use mr_set::{Set, is_before};
@@ -17,7 +18,7 @@ fn is_within(e: u32, low: u32, end: u32) -> bool
 
 // The set of one element that the word spells.
 fn read_last(word: &[u8], low: u32, elements: u32) -> Option<Set>
-    requires { elements ≤ 32 }
+    requires { elements ≤ ELEMENTS }
     ensures { (x : List ℕ) → (result ≡ Some x) ↔ AreNumbersFrom low elements 1 word.now x }
 {
     match number(word) {
@@ -35,7 +36,7 @@ fn read_last(word: &[u8], low: u32, elements: u32) -> Option<Set>
 // The set of `count` elements from `low` on that the line spells.
 fn read_elements(line: &[u8], low: u32, elements: u32, count: u32) -> Option<Set>
     requires some { 0 < count }
-    requires limit { elements ≤ 32 }
+    requires limit { elements ≤ ELEMENTS }
     ensures { (x : List ℕ) → (result ≡ Some x) ↔ AreNumbersFrom low elements count line.now x }
 {
     if count == 1 {
@@ -61,7 +62,7 @@ fn read_elements(line: &[u8], low: u32, elements: u32, count: u32) -> Option<Set
 
 // The set of `rank` elements below `elements` that the line spells.
 fn read_set(line: &[u8], elements: u32, rank: u32) -> Option<Set>
-    requires { elements ≤ 32 }
+    requires { elements ≤ ELEMENTS }
     ensures { (x : List ℕ) → (result ≡ Some x) ↔ SpellsSet elements rank line.now x }
 {
     if rank > 0 {
@@ -92,7 +93,7 @@ pub fn set_line<'a>(
     rank: u32,
     last: Option<Set>,
 ) -> Result<(Set, &'a [u8]), FileFault>
-    requires { elements ≤ 32 }
+    requires { elements ≤ ELEMENTS }
     ensures { MatchResult result (λ x. IsLineOf (set_table elements rank last) bytes.now x.0 x.1.now) (Names (IsLineFault (set_table elements rank last) line_number bytes.now)) }
 {
     match split_once(bytes, b'\n') {

@@ -15,3 +15,8 @@ pub mod OneVerdict
 pub mod OneFrame
 pub mod Filled
 pub mod Apart
+pub mod Lasting
+pub mod Values
+pub mod Parting
+pub mod Owning
+pub mod Firsts

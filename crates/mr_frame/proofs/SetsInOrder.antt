@@ -7,20 +7,20 @@ use Rattle.std.proofs.lemmas.List.Elements.{Contains-append_left, Contains-appen
 use Rattle.mr_set.specs.Subsets.{IsSetOf, IsBefore, IsFirst, IsNext, IsLast, list_cmp}
 use Rattle.mr_set.proofs.Ordered.{member_first, member_cases, member_none, sorted_join}
 use Rattle.mr_matroid.proofs.Walk.{compare}
-use Rattle.mr_frame.specs.Building.{AreSets, IsListedBefore, IsListedThrough}
+use Rattle.mr_frame.specs.Private.Building.{AreSets, IsListedBefore, IsListedThrough}
 
 -- no sets are in order
-sorted_none : IsStrictlySortedBy list_cmp []
+pub sorted_none : IsStrictlySortedBy list_cmp []
 unfolding IsStrictlySortedBy
 sorted_none = tt
 
 -- so is one alone
-sorted_one : (x : List ℕ) → IsStrictlySortedBy list_cmp (x ∷ [])
+pub sorted_one : (x : List ℕ) → IsStrictlySortedBy list_cmp (x ∷ [])
 unfolding IsStrictlySortedBy
 sorted_one x = (tt, tt)
 
 -- the only member
-only : (x y : List ℕ) → Contains (x ∷ []) y → y ≡ x
+pub only : (x y : List ℕ) → Contains (x ∷ []) y → y ≡ x
 only x y inside = ⊎_elim (λ (p : x ≡ y). sym p) (λ (p : Contains [] y). absurd (member_none y p)) (member_cases x [] y inside)
 
 module _ (n r : ℕ) (P : List ℕ → Type 0) where

@@ -1,25 +1,31 @@
-ghost use Rattle.std.specs.Prelude.{◌≡◌, ◌↔◌, ◌<◌, ◌≤◌, ◌+◌, ℕ, List, IsTrue, IfOk, IfSome, MatchBool, MatchOption, Contains, Some, length, slice_get, slice_index};
+ghost use Rattle.std.specs.Prelude.{◌≡◌, ◌≢◌, ◌↔◌, ◌<◌, ◌≤◌, ◌+◌, ◌*◌, ℕ, List, IsTrue, IfOk, IfSome, MatchBool, MatchOption, Contains, Some, None, length, slice_get, slice_index, slice_index_or, slice_set};
 ghost use Rattle.std.specs.List.Sorted.{IsPermutation, IsStrictlySortedBy};
 ghost use Rattle.mr_field.specs.Gf.{order};
 ghost use Rattle.mr_set.specs.declared.TheConstants.{ELEMENTS};
 ghost use Rattle.mr_set.specs.Subsets.{IsSetOf, list_cmp};
 ghost use Rattle.mr_assign.specs.declared.TheConstants.{POSITIONS};
 ghost use Rattle.mr_linear.specs.Stored.{cell, InField};
+ghost use Rattle.mr_linear.specs.declared.elimination.TheConstants.{STRIDE};
 ghost use Rattle.mr_graph.specs.Order.{IsForestOrder};
 ghost use Rattle.mr_frame.specs.Frame.{IsExchange, IsFrame};
-ghost use Rattle.mr_frame.specs.Test.{IsCell, IsAssignmentOf, IsFull, IsFilledBy, Needs, IsDecided, SetFails, IsVerdict, IsFirstFailing};
-ghost use Rattle.mr_frame.specs.Filling.{AreRows, HasValue, HasEntry, IsFilledTo};
+ghost use Rattle.mr_frame.specs.Test.{IsCell, IsAssignmentOf, IsFull, IsFilledBy, Needs, NeedsLast, IsDecided, SetFails, IsVerdict, IsFirstFailing};
+ghost use Rattle.mr_frame.specs.Private.Filling.{AreRows, HasValue, HasEntry, IsFilledTo, IsCopiedTo};
+ghost use Rattle.mr_frame.specs.Parts.{NoneFailsLast, IsFirstFailingLast};
+ghost use Rattle.mr_frame.specs.Private.Parts.{IsPartOfSet};
 
 use crate::cell::cells_of;
 use crate::exchange::fundamental_graph;
+use crate::first::{WIDTH, mark};
+use crate::part::Part;
+use crate::part_list::{PartList, parts_of};
 use crate::place::free_places;
-use crate::set_list::{SetList, tests_of};
+use crate::set_list::{SetList, due_of, tests_of};
 use crate::verdict::verdict_of;
 use crate::{Cell, Verdict};
-use mr_assign::Assign;
+use mr_assign::{Assign, POSITIONS};
 use mr_field::Field;
 use mr_graph::{Edge, EdgeList};
-use mr_linear::{CELLS, Matrix, STRIDE, independent_part};
+use mr_linear::{CELLS, Matrix, STRIDE, dependent_values, independent_part};
 use mr_matroid::Matroid;
 use mr_set::{ELEMENTS, Set, elements, first_subset, next_subset};
 use std::alloc::{AllocError, Global};
@@ -37,17 +43,21 @@ pub struct Frame {
     // Row i stands at `ELEMENTS` times i.
     cells: Vec<Cell>,
     tests: Vec<SetList>,
+    due: Vec<SetList>,
+    parts: Vec<PartList>,
 }
 
 impl Model for Frame {
     ghost use Rattle.mr_frame.specs.Frame.{Framed};
-    ghost use Rattle.mr_frame.specs.Kept.{framed, IsKept};
+    ghost use Rattle.mr_frame.specs.Kept.{framed};
+    ghost use Rattle.mr_frame.specs.Private.Kept.{IsKept, AreDue};
+    ghost use Rattle.mr_frame.specs.Private.Parts.{ArePartLists};
 
     ghost Value = { Framed };
 
     ghost view = { λ f. framed f.matroid f.field f.basis f.forest f.places };
 
-    ghost invariant = { λ f. IsKept (framed f.matroid f.field f.basis f.forest f.places) f.cells.items f.tests.items };
+    ghost invariant = { λ f. IsKept (framed f.matroid f.field f.basis f.forest f.places) f.cells.items f.tests.items × AreDue (framed f.matroid f.field f.basis f.forest f.places) f.tests.items f.due.items × ArePartLists f.matroid f.basis f.due.items f.parts.items };
 }
 
 impl Frame {
@@ -65,6 +75,9 @@ impl Frame {
         let places = free_places(alloc, &m, &f, basis, &graph, forest.as_slice())?;
         let cells = cells_of(alloc, &graph, m.rank(), places.as_slice())?;
         let tests = tests_of(alloc, &m, basis, places.as_slice())?;
+        let members = elements(basis);
+        let due = due_of(alloc, &tests, members.as_slice(), places.as_slice())?;
+        let parts = parts_of(alloc, &m, basis, members.as_slice(), &due)?;
         Ok(Frame {
             matroid: m,
             field: f,
@@ -73,6 +86,8 @@ impl Frame {
             places,
             cells,
             tests,
+            due,
+            parts,
         })
     }
 
@@ -128,6 +143,23 @@ impl Frame {
         self.places.as_slice()[p as usize]
     }
 
+    /// Whether the map gives elements of the field to free positions, and to nothing else.
+    pub fn is_assignment(&self, a: &Assign) -> bool
+        ensures { IsTrue result ↔ IsAssignmentOf self.now a.now }
+    {
+        // The clauses of `words` say that there are no more positions.
+        let _words = a.words();
+        let count = self.free();
+        let order = self.field.order();
+        for p in 0..POSITIONS {
+            let v = a.get(p);
+            if v != 0 && (p >= count || v >= order) {
+                return false;
+            }
+        }
+        true
+    }
+
     /// What stands in a row and in the column of an element outside of the basis.
     pub fn cell(&self, row: u32, element: u32) -> Cell
         requires row { row < self.now.matroid.rank }
@@ -161,6 +193,52 @@ impl Frame {
         verdict_of(self.matroid.is_basis(x), independent)
     }
 
+    /// The values of a free position for which a set fails, once the others in its part have values. One
+    /// elimination tells them all.
+    pub fn failing_values(&self, x: Set, p: u32, a: &Assign) -> Set
+        requires set { IsSetOf self.now.matroid.elements self.now.matroid.rank x }
+        requires assignment { IsAssignmentOf self.now a.now }
+        requires position { Needs self.now x p }
+        requires others { (q : ℕ) → Needs self.now x q → q ≢ p → slice_index a.now q ≢ 0 }
+        ensures { (v : ℕ) → Contains result v ↔ SetFails self.now (slice_set a.now p v) x }
+    {
+        // The clauses of `words` say how many positions there are.
+        let _positions = a.words();
+        let rows = self.rows_outside(x);
+        let columns = x.minus(self.basis);
+        let mut part = self.part(rows, columns, a);
+        let place = self.place(p);
+        let members = elements(self.basis);
+        let dependent = dependent_values(
+            &self.field,
+            &mut part,
+            self.matroid.rank(),
+            self.matroid.elements(),
+            rows,
+            columns,
+            place.row,
+            place.col,
+            members[place.row as usize],
+        );
+        values_where(&self.field, self.matroid.is_basis(x), dependent)
+    }
+
+    /// For each value of a free position the first set that fails with it, among those whose part has the position as its
+    /// last one, where the earlier positions have values. One elimination for each set tells all values.
+    pub fn first_failing_values(&self, p: u32, a: &Assign) -> [Option<Set>; WIDTH]
+        requires assignment { IsAssignmentOf self.now a.now }
+        requires position { p < length self.now.places }
+        requires earlier { (q : ℕ) → q < p → slice_index a.now q ≢ 0 }
+        ensures { (v : ℕ) → v < order self.now.field → MatchOption (slice_index_or result v None) (NoneFailsLast self.now (slice_set a.now p v) p) (IsFirstFailingLast self.now (slice_set a.now p v) p) }
+    {
+        let full = self.outside(a);
+        let mut first = [None; WIDTH];
+        for part in self.parts[p as usize].as_slice() {
+            mark(&mut first, self.failing_part(part, p, a, &full), part.set);
+        }
+        first
+    }
+
     /// The sets whose part has a free position, in order.
     pub fn tests_at(&self, p: u32) -> &[Set]
         requires { p < length self.now.places }
@@ -168,6 +246,15 @@ impl Frame {
         ensures exactly { (x : List ℕ) → Contains result.now x ↔ (IsSetOf self.now.matroid.elements self.now.matroid.rank x × Needs self.now x p) }
     {
         self.tests[p as usize].as_slice()
+    }
+
+    /// The sets whose part has this as its last free position, in order.
+    pub fn due_at(&self, p: u32) -> &[Set]
+        requires { p < length self.now.places }
+        ensures sorted { IsStrictlySortedBy list_cmp result.now }
+        ensures exactly { (x : List ℕ) → Contains result.now x ↔ (IsSetOf self.now.matroid.elements self.now.matroid.rank x × NeedsLast self.now x p) }
+    {
+        self.due[p as usize].as_slice()
     }
 
     /// The first set that fails under an assignment.
@@ -267,6 +354,49 @@ impl Frame {
         rows
     }
 
+    // A working copy with the entries outside of the basis.
+    fn outside(&self, a: &Assign) -> [u8; CELLS]
+        requires assignment { IsAssignmentOf self.now a.now }
+        ensures elements { InField self.now.field result }
+        ensures values { (i e : ℕ) → i < self.now.matroid.rank → e < self.now.matroid.elements → ¬ (Contains self.now.basis e) → HasValue self.now a.now i e (cell result i e) }
+    {
+        let r = self.matroid.rank();
+        let n = self.matroid.elements();
+        let rows = first_subset(n, r);
+        let columns = first_subset(n, n).minus(self.basis);
+        self.part(rows, columns, a)
+    }
+
+    // The values of a free position for which a set fails, by what is kept of the set and the entries outside of the basis.
+    fn failing_part(&self, part: &Part, p: u32, a: &Assign, full: &[u8; CELLS]) -> Set
+        requires part { IsPartOfSet self.now.matroid self.now.basis part.now.set part.now }
+        requires set { IsSetOf self.now.matroid.elements self.now.matroid.rank part.now.set }
+        requires assignment { IsAssignmentOf self.now a.now }
+        requires position { Needs self.now part.now.set p }
+        requires others { (q : ℕ) → Needs self.now part.now.set q → q ≢ p → slice_index a.now q ≢ 0 }
+        requires elements { InField self.now.field full.now }
+        requires values { (i e : ℕ) → i < self.now.matroid.rank → e < self.now.matroid.elements → ¬ (Contains self.now.basis e) → HasValue self.now a.now i e (cell full.now i e) }
+        ensures { (v : ℕ) → Contains result v ↔ SetFails self.now (slice_set a.now p v) part.now.set }
+    {
+        // The clauses of `words` say how many positions there are.
+        let _positions = a.words();
+        let mut copy = *full;
+        let place = self.place(p);
+        let members = elements(self.basis);
+        let dependent = dependent_values(
+            &self.field,
+            &mut copy,
+            self.matroid.rank(),
+            self.matroid.elements(),
+            part.rows,
+            part.columns,
+            place.row,
+            place.col,
+            members[place.row as usize],
+        );
+        values_where(&self.field, part.basis, dependent)
+    }
+
     // Whether each free position in the part of a set has a value.
     fn is_decided(&self, rows: Set, x: Set, a: &Assign) -> bool
         requires { AreRows self.now.basis x rows }
@@ -303,32 +433,45 @@ impl Frame {
         ensures elements { InField self.now.field result }
         ensures values { (i e : ℕ) → i < self.now.matroid.rank → e < self.now.matroid.elements → Contains rows i → Contains columns e → HasValue self.now a.now i e (cell result i e) }
     {
-        let rank = self.matroid.rank() as usize;
         let mut w = [0u8; CELLS];
-        for k in 0..rank * STRIDE {
-            w[k] = self.part_value(rows, columns, (k / STRIDE) as u32, (k % STRIDE) as u32, a);
+        for row in 0..self.matroid.rank() {
+            self.copy_row(rows, columns, row, a, &mut w);
         }
         w
     }
 
-    // The entry in one of the rows and one of the columns, and 0 elsewhere.
-    fn part_value(&self, rows: Set, columns: Set, row: u32, element: u32, a: &Assign) -> u8
+    // Copies the entries of one row, if it is one of the rows.
+    fn copy_row(&self, rows: Set, columns: Set, row: u32, a: &Assign, w: &mut [u8])
         requires assignment { IsAssignmentOf self.now a.now }
         requires columns { (e : ℕ) → Contains columns e → e < self.now.matroid.elements }
         requires row { row < self.now.matroid.rank }
-        requires element { element < ELEMENTS }
-        ensures value { Contains rows row → Contains columns element → HasValue self.now a.now row element result }
-        ensures element { result < order self.now.field }
+        requires copied { IsCopiedTo self.now a.now rows columns w.old (row * STRIDE) }
+        ensures { IsCopiedTo self.now a.now rows columns w.new ((row + 1) * STRIDE) }
+    {
+        // The clauses of `elements` say that there are at most `ELEMENTS`.
+        let n = self.matroid.elements();
+        if !rows.has(row) {
+            return;
+        }
+        for e in 0..n {
+            self.copy_entry(rows, columns, row, e, a, w);
+        }
+    }
+
+    // Copies one entry of a row, if its column is one of the columns.
+    fn copy_entry(&self, rows: Set, columns: Set, row: u32, e: u32, a: &Assign, w: &mut [u8])
+        requires assignment { IsAssignmentOf self.now a.now }
+        requires row { row < self.now.matroid.rank }
+        requires column { e < self.now.matroid.elements }
+        requires copied { IsCopiedTo self.now a.now rows columns w.old (row * STRIDE + e) }
+        ensures { IsCopiedTo self.now a.now rows columns w.new (row * STRIDE + (e + 1)) }
     {
         // The clauses of `elements` say that there are at most `ELEMENTS`.
         let _limits = self.matroid.elements();
-        if !rows.has(row) {
-            return 0;
+        if !columns.has(e) {
+            return;
         }
-        if !columns.has(element) {
-            return 0;
-        }
-        self.value(row, element, a)
+        w[row as usize * STRIDE + e as usize] = self.value(row, e, a);
     }
 
     // Whether a set fails.
@@ -341,5 +484,18 @@ impl Frame {
             Verdict::Fails => true,
             Verdict::Holds | Verdict::Unknown => false,
         }
+    }
+}
+
+// The values but 0 that are in a set just where the flag says so.
+fn values_where(field: &Field, flag: bool, values: Set) -> Set
+    ensures { (v : ℕ) → Contains result v ↔ ((0 < v) × (v < order field.now) × (IsTrue flag ↔ Contains values v)) }
+{
+    let q = field.order() as u32;
+    let all = first_subset(q, q).without(0);
+    if flag {
+        all.meet(values)
+    } else {
+        all.minus(values)
     }
 }

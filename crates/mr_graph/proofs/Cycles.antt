@@ -3,7 +3,7 @@ use Rattle.std.proofs.Common.{ℕ, zero, suc, ◌+◌, ◌<◌, ◌≤◌, ◌�
 use Rattle.std.proofs.lemmas.List.{take_more, take_all, get_or-take, length-take-le}
 use Rattle.mr_graph.specs.declared.edge.Edge.{Edge}
 use Rattle.mr_graph.specs.Graph.{Graph, IsEdge, Vertex, row, col, Walk, stay, to_col, to_row}
-use Rattle.mr_graph.specs.Forest.{HasEdge, IsBefore, HasEdgeBefore, IsFirstForest, Other, IsAcyclic}
+use Rattle.mr_graph.specs.Forest.{HasEdge, IsEarlierPlace, HasEdgeBefore, IsFirstForest, Other, IsAcyclic}
 use Rattle.mr_graph.proofs.Walks.{walk-trans, walk-sym, walk-more}
 use Rattle.mr_graph.proofs.Parts.{And}
 use Rattle.mr_graph.proofs.Edges.{HasEdge-push, HasEdge-push_old, HasEdge-push_new, HasEdge-get_or, HasEdge-place}
@@ -79,7 +79,7 @@ acyclic_take g xs h (suc n) le =
         let is_row : (get_or xs place.0 d).row ≡ i = sym (ap (λ (x : Edge). x.row) read) ∙ place.2 in
         let is_col : (get_or xs place.0 d).col ≡ e = sym (ap (λ (x : Edge). x.col) read) ∙ place.3 in (
           subst (λ k. HasEdge xs k e) is_row (subst (λ k. HasEdge xs (get_or xs place.0 d).row k) is_col (HasEdge-get_or xs place.0 d (omega arith))),
-          subst (λ k. IsBefore k e (get_or xs n d).row (get_or xs n d).col) is_row (subst (λ k. IsBefore (get_or xs place.0 d).row k (get_or xs n d).row (get_or xs n d).col) is_col (h.rising place.0 n d within lt)),
+          subst (λ k. IsEarlierPlace k e (get_or xs n d).row (get_or xs n d).col) is_row (subst (λ k. IsEarlierPlace (get_or xs place.0 d).row k (get_or xs n d).row (get_or xs n d).col) is_col (h.rising place.0 n d within lt)),
         )
 
 -- the first forest has no cycle

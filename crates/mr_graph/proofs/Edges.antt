@@ -5,22 +5,22 @@ use Rattle.std.specs.List.Sorted.{IsPermutation}
 use Rattle.std.proofs.lemmas.Bool.{cases_lt, cases_eq}
 use Rattle.std.proofs.lemmas.List.Sorted.{Contains-permutation}
 use Rattle.mr_graph.specs.declared.edge.Edge.{Edge}
-use Rattle.mr_graph.specs.Forest.{HasEdge, IsBefore}
+use Rattle.mr_graph.specs.Forest.{HasEdge, IsEarlierPlace}
 
 -- no place is before itself
-pub not_before_itself : (i e : ℕ) → IsBefore i e i e → ⊥
+pub not_before_itself : (i e : ℕ) → IsEarlierPlace i e i e → ⊥
 not_before_itself i e x = ⊎_elim (λ (p : i < i). absurd (omega arith)) (λ (p : (i ≡ i) × (e < e)). absurd (omega arith)) x
 
 -- what is before a place is before the next one in its row
-pub before_more : (i' e' i e : ℕ) → IsBefore i' e' i e → IsBefore i' e' i (e + 1)
+pub before_more : (i' e' i e : ℕ) → IsEarlierPlace i' e' i e → IsEarlierPlace i' e' i (e + 1)
 before_more i' e' i e x = ⊎_elim (λ (p : i' < i). inl p) (λ (p : (i' ≡ i) × (e' < e)). inr (p.0, omega arith)) x
 
 -- before the next place in a row is this one and what is before it
-pub before_cases : (i' e' i e : ℕ) → IsBefore i' e' i (e + 1) → IsBefore i' e' i e ⊎ ((i' ≡ i) × (e' ≡ e))
+pub before_cases : (i' e' i e : ℕ) → IsEarlierPlace i' e' i (e + 1) → IsEarlierPlace i' e' i e ⊎ ((i' ≡ i) × (e' ≡ e))
 before_cases i' e' i e x = ⊎_elim (λ (p : i' < i). inl (inl p)) (λ (p : (i' ≡ i) × (e' < e + 1)). ⊎_elim (λ (q : e' < e). inl (inr (p.0, q))) (λ (q : e ≤ e'). inr (p.0, omega arith)) (cases_lt e' e)) x
 
 -- a place is before the next one in its row
-pub here_before_next : (i e : ℕ) → IsBefore i e i (e + 1)
+pub here_before_next : (i e : ℕ) → IsEarlierPlace i e i (e + 1)
 here_before_next i e = inr (refl, omega arith)
 
 -- a list with one more edge has that one and the old ones

@@ -6,15 +6,15 @@ use Rattle.std.proofs.lemmas.List.{ext_get_or}
 use Rattle.std.proofs.lemmas.List.Quantifiers.{all_pairs_push}
 use Rattle.mr_graph.specs.declared.edge.Edge.{Edge}
 use Rattle.mr_graph.specs.Graph.{Graph, IsEdge, Vertex, row, col, IsVertex, Walk, stay, to_col, to_row}
-use Rattle.mr_graph.specs.Forest.{HasEdge, IsBefore, HasEdgeBefore, ClosesCycle, IsFirstForest}
-use Rattle.mr_graph.specs.Labels.{label, IsLabelled, relabelled}
-use Rattle.mr_graph.specs.Grown.{IsGrown}
+use Rattle.mr_graph.specs.Forest.{HasEdge, IsEarlierPlace, HasEdgeBefore, ClosesCycle, IsFirstForest}
+use Rattle.mr_graph.specs.Private.Labels.{label, IsLabelled, relabelled}
+use Rattle.mr_graph.specs.Private.Grown.{IsGrown}
 use Rattle.mr_graph.proofs.Walks.{walk-more, walk-trans, walk-sym}
 use Rattle.mr_graph.proofs.Parts.{labelled_none, closes, closes_not, merge, merged, And, relabelled-same, relabelled-other}
 use Rattle.mr_graph.proofs.Edges.{not_before_itself, before_more, before_cases, here_before_next, HasEdge-push, HasEdge-push_old, HasEdge-push_new, HasEdge-get_or}
 
 -- no place is before the first one
-nothing_before : (i' e' : ℕ) → IsBefore i' e' 0 0 → ⊥
+nothing_before : (i' e' : ℕ) → IsEarlierPlace i' e' 0 0 → ⊥
 nothing_before i' e' x = ⊎_elim (λ (p : i' < 0). absurd (omega arith)) (λ (p : (i' ≡ 0) × (e' < 0)). absurd (omega arith)) x
 
 -- before the first place the forest is empty, and each vertex has a label of its own
@@ -31,10 +31,10 @@ grown_none g labels size own = record {
 pub grown_no_edge : (g : Graph) (labels : List ℕ) (forest : List Edge) (i e : ℕ) → IsGrown g labels forest i e → (IsEdge g i e → ⊥) → IsGrown g labels forest i (e + 1)
 grown_no_edge g labels forest i e h none = record {
   labelled = h.labelled;
-  spans = λ i' e' x b. ⊎_elim (λ (p : IsBefore i' e' i e). h.spans i' e' x p) (λ (p : (i' ≡ i) × (e' ≡ e)). absurd (none (rw (p.0, p.1) at x))) (before_cases i' e' i e b);
+  spans = λ i' e' x b. ⊎_elim (λ (p : IsEarlierPlace i' e' i e). h.spans i' e' x p) (λ (p : (i' ≡ i) × (e' ≡ e)). absurd (none (rw (p.0, p.1) at x))) (before_cases i' e' i e b);
   before = λ i' e' x. before_more i' e' i e (h.before i' e' x);
   rising = h.rising;
-  taken = λ i' e' b. ⊎_elim (λ (p : IsBefore i' e' i e). h.taken i' e' p) (λ (p : (i' ≡ i) × (e' ≡ e)). rw (p.0, p.1) (
+  taken = λ i' e' b. ⊎_elim (λ (p : IsEarlierPlace i' e' i e). h.taken i' e' p) (λ (p : (i' ≡ i) × (e' ≡ e)). rw (p.0, p.1) (
     (λ (x : HasEdge forest i e). absurd (not_before_itself i e (h.before i e x))),
     (λ (x : IsEdge g i e × (ClosesCycle (HasEdgeBefore forest i e) i e → ⊥)). absurd (none x.0)),
   )) (before_cases i' e' i e b);
@@ -53,7 +53,7 @@ grown_next_row g labels forest i h = record {
   );
 }
   where
-    earlier : (i' e' : ℕ) → e' < g.cols → IsBefore i' e' (i + 1) 0 → IsBefore i' e' i g.cols
+    earlier : (i' e' : ℕ) → e' < g.cols → IsEarlierPlace i' e' (i + 1) 0 → IsEarlierPlace i' e' i g.cols
     earlier i' e' lt b = ⊎_elim
         (λ (p : i' < i + 1). ⊎_elim (λ (q : i' < i). inl q) (λ (q : i ≤ i'). inr (omega arith, lt)) (cases_lt i' i))
         (λ (p : (i' ≡ i + 1) × (e' < 0)). absurd (omega arith)) b
@@ -63,10 +63,10 @@ pub grown_same : (g : Graph) (labels new : List ℕ) (forest : List Edge) (i e :
     label g.rows labels (row i) ≡ label g.rows labels (col e) → new ≡ labels → IsGrown g new forest i (e + 1)
 grown_same g labels new forest i e h edge same kept = rw kept (record {
   labelled = h.labelled;
-  spans = λ i' e' x b. ⊎_elim (λ (p : IsBefore i' e' i e). h.spans i' e' x p) (λ (p : (i' ≡ i) × (e' ≡ e)). rw (p.0, p.1) same) (before_cases i' e' i e b);
+  spans = λ i' e' x b. ⊎_elim (λ (p : IsEarlierPlace i' e' i e). h.spans i' e' x p) (λ (p : (i' ≡ i) × (e' ≡ e)). rw (p.0, p.1) same) (before_cases i' e' i e b);
   before = λ i' e' x. before_more i' e' i e (h.before i' e' x);
   rising = h.rising;
-  taken = λ i' e' b. ⊎_elim (λ (p : IsBefore i' e' i e). h.taken i' e' p) (λ (p : (i' ≡ i) × (e' ≡ e)). rw (p.0, p.1) (
+  taken = λ i' e' b. ⊎_elim (λ (p : IsEarlierPlace i' e' i e). h.taken i' e' p) (λ (p : (i' ≡ i) × (e' ≡ e)). rw (p.0, p.1) (
     (λ (x : HasEdge forest i e). absurd (not_before_itself i e (h.before i e x))),
     (λ (x : IsEdge g i e × (ClosesCycle (HasEdgeBefore forest i e) i e → ⊥)). absurd (x.1 (walk-more (λ i' e' y. (y, h.before i' e' y)) (closes h.labelled i e edge.row edge.col same)))),
   )) (before_cases i' e' i e b);
@@ -79,12 +79,12 @@ pub grown_more : (g : Graph) (labels new : List ℕ) (forest : List Edge) (x : E
 grown_more g labels new forest x h edge differs size relabelled = record {
   labelled = pushed;
   spans = λ i' e' y b. ⊎_elim
-      (λ (p : IsBefore i' e' x.row x.col). at (row i') y.row ∙ ap (merged g.rows labels x.row x.col) (h.spans i' e' y p) ∙ sym (at (col e') y.col))
+      (λ (p : IsEarlierPlace i' e' x.row x.col). at (row i') y.row ∙ ap (merged g.rows labels x.row x.col) (h.spans i' e' y p) ∙ sym (at (col e') y.col))
       (λ (p : (i' ≡ x.row) × (e' ≡ x.col)). rw (p.0, p.1) (pushed.along x.row x.col (HasEdge-push_new forest x))) (before_cases i' e' x.row x.col b);
   before = λ i' e' y. ⊎_elim (λ (p : HasEdge forest i' e'). before_more i' e' x.row x.col (h.before i' e' p)) (λ (p : (i' ≡ x.row) × (e' ≡ x.col)). rw (p.0, p.1) (here_before_next x.row x.col)) (HasEdge-push forest x i' e' y);
-  rising = all_pairs_push (λ a b. IsBefore a.row a.col b.row b.col) forest x h.rising (λ k d lt. h.before (get_or forest k d).row (get_or forest k d).col (HasEdge-get_or forest k d lt));
+  rising = all_pairs_push (λ a b. IsEarlierPlace a.row a.col b.row b.col) forest x h.rising (λ k d lt. h.before (get_or forest k d).row (get_or forest k d).col (HasEdge-get_or forest k d lt));
   taken = λ i' e' b. ⊎_elim
-      (λ (p : IsBefore i' e' x.row x.col). (
+      (λ (p : IsEarlierPlace i' e' x.row x.col). (
         (λ y. let z = (h.taken i' e' p).0 (old i' e' p y) in (z.0, λ w. z.1 (walk-more (λ i'' e'' v. (old i'' e'' (earlier i'' e'' i' e' v.1 p) v.0, v.1)) w))),
         (λ z. HasEdge-push_old forest x i' e' ((h.taken i' e' p).1 (z.0, λ w. z.1 (walk-more (λ i'' e'' v. (HasEdge-push_old forest x i'' e'' v.0, v.1)) w)))),
       ))
@@ -110,10 +110,10 @@ grown_more g labels new forest x h edge differs size relabelled = record {
     at (col e) lt = relabelled (g.rows + e) (let n = h.labelled.size in omega arith)
 
     -- an edge before the new one is an old one
-    old : (i' e' : ℕ) → IsBefore i' e' x.row x.col → HasEdge (forest ++ x ∷ []) i' e' → HasEdge forest i' e'
+    old : (i' e' : ℕ) → IsEarlierPlace i' e' x.row x.col → HasEdge (forest ++ x ∷ []) i' e' → HasEdge forest i' e'
     old i' e' b y = ⊎_elim (λ (p : HasEdge forest i' e'). p) (λ (p : (i' ≡ x.row) × (e' ≡ x.col)). absurd (not_before_itself x.row x.col (rw (p.0, p.1) at b))) (HasEdge-push forest x i' e' y)
 
-    earlier : (i'' e'' i' e' : ℕ) → IsBefore i'' e'' i' e' → IsBefore i' e' x.row x.col → IsBefore i'' e'' x.row x.col
+    earlier : (i'' e'' i' e' : ℕ) → IsEarlierPlace i'' e'' i' e' → IsEarlierPlace i' e' x.row x.col → IsEarlierPlace i'' e'' x.row x.col
     earlier i'' e'' i' e' p q = ⊎_elim
         (λ (a : i'' < i'). ⊎_elim (λ (b : i' < x.row). inl (omega arith)) (λ (b : (i' ≡ x.row) × (e' < x.col)). inl (omega arith)) q)
         (λ (a : (i'' ≡ i') × (e'' < e')). ⊎_elim (λ (b : i' < x.row). inl (omega arith)) (λ (b : (i' ≡ x.row) × (e' < x.col)). inr (omega arith, omega arith)) q) p

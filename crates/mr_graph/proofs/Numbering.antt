@@ -4,9 +4,10 @@ use Rattle.std.proofs.lemmas.Bool.{cases_lt}
 use Rattle.std.proofs.lemmas.List.{get_or_append_left, get_or_push, length_push, get_or-take, get_or-drop, length-take-le}
 use Rattle.mr_graph.specs.declared.edge.Edge.{Edge}
 use Rattle.mr_graph.specs.Graph.{Graph, IsEdge, Vertex, row, col, IsVertex}
-use Rattle.mr_graph.specs.Labels.{label, place, IsLabelled}
-use Rattle.mr_graph.specs.Grown.{IsGrown}
-use Rattle.mr_graph.specs.Components.{number, IsInOrder, IsComponents, IsNumbered}
+use Rattle.mr_graph.specs.Private.Labels.{label, place, IsLabelled}
+use Rattle.mr_graph.specs.Private.Grown.{IsGrown}
+use Rattle.mr_graph.specs.Components.{number, IsNumberedInOrder, IsComponents}
+use Rattle.mr_graph.specs.Private.Components.{IsNumbered}
 use Rattle.mr_graph.proofs.Walks.{walk-more, walk-label}
 use Rattle.mr_graph.proofs.Parts.{place-lt}
 
@@ -32,8 +33,8 @@ new_number : (ns : List ℕ) (x k : ℕ) → k ≡ length ns → get_or (ns ++ x
 new_number ns x k is = get_or_push ns x 0 k (sym is)
 
 -- a push keeps what the order says of the old places
-in_order_old : (ns : List ℕ) (x count more : ℕ) → IsInOrder ns count → count ≤ more → x < more → ((n : ℕ) → n < more → (n < count) ⊎ (n ≡ x)) →
-    ((n : ℕ) → n < x → (j : ℕ) × (j < length ns) × (get_or ns j 0 ≡ n)) → IsInOrder (ns ++ x ∷ []) more
+in_order_old : (ns : List ℕ) (x count more : ℕ) → IsNumberedInOrder ns count → count ≤ more → x < more → ((n : ℕ) → n < more → (n < count) ⊎ (n ≡ x)) →
+    ((n : ℕ) → n < x → (j : ℕ) × (j < length ns) × (get_or ns j 0 ≡ n)) → IsNumberedInOrder (ns ++ x ∷ []) more
 in_order_old ns x count more h le small which earlier = record {
   below = λ k lt. at k lt (λ v. v < more) (λ p. let s = h.below k p in omega arith) small;
   used = λ n lt. ⊎_elim
@@ -126,7 +127,7 @@ components_numbered g labels forest ns count h n = record {
     λ e. l.joined u v p q ((n.same (place g.rows u) (place g.rows v) (at u p) (at v q)).0 (sym (read u p) ∙ e ∙ read v q)),
     λ w. read u p ∙ (n.same (place g.rows u) (place g.rows v) (at u p) (at v q)).1 (walk-label (label g.rows labels) l.along w) ∙ sym (read v q),
   );
-  order = subst (λ xs. IsInOrder xs count) (sym (take-append-drop g.rows ns)) n.order;
+  order = subst (λ xs. IsNumberedInOrder xs count) (sym (take-append-drop g.rows ns)) n.order;
 }
   where
     l : IsLabelled g.rows g.cols (IsEdge g) labels

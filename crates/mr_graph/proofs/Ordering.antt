@@ -9,8 +9,9 @@ use Rattle.std.proofs.lemmas.List.Quantifiers.{all_pairs_remove}
 use Rattle.std.proofs.lemmas.List.Sorted.{IsPermutation-more}
 use Rattle.mr_graph.specs.declared.edge.Edge.{Edge}
 use Rattle.mr_graph.specs.Graph.{IsEdge, Graph, Vertex, row, col, Walk, stay}
-use Rattle.mr_graph.specs.Forest.{HasEdge, IsBefore, IsFirstForest}
-use Rattle.mr_graph.specs.Order.{Touches, IsLeafOf, IsFirstAt, IsForestOrder, IsNext}
+use Rattle.mr_graph.specs.Forest.{HasEdge, IsEarlierPlace, IsFirstForest}
+use Rattle.mr_graph.specs.Order.{Touches, IsLeafOf, IsFirstAt, IsForestOrder}
+use Rattle.mr_graph.specs.Private.Order.{IsNextEdge}
 use Rattle.mr_graph.proofs.Parts.{And}
 use Rattle.mr_graph.proofs.Walks.{walk-more}
 use Rattle.mr_graph.proofs.Edges.{HasEdge-push, HasEdge-push_old, HasEdge-push_new, HasEdge-get_or, HasEdge-place, not_before_itself}
@@ -38,8 +39,8 @@ abbrev pub IsDifferent : Edge → Edge → Type 0
 IsDifferent x y = (x.row ≡ y.row) × (x.col ≡ y.col) → ⊥
 
 -- an edge before another one differs from it
-different : (x y : Edge) → IsBefore x.row x.col y.row y.col → IsDifferent x y
-different x y b s = not_before_itself y.row y.col (subst (λ j. IsBefore j y.col y.row y.col) s.0 (subst (λ j. IsBefore x.row j y.row y.col) s.1 b))
+different : (x y : Edge) → IsEarlierPlace x.row x.col y.row y.col → IsDifferent x y
+different x y b s = not_before_itself y.row y.col (subst (λ j. IsEarlierPlace j y.col y.row y.col) s.0 (subst (λ j. IsEarlierPlace x.row j y.row y.col) s.1 b))
 
 -- what is left was there before
 pub HasEdge-remove : (xs : List Edge) (k i e : ℕ) → HasEdge (remove xs k) i e → HasEdge xs i e
@@ -113,7 +114,7 @@ split_same F out out' rem there back walk s = record {
     less (col e) p = (p.0, back p.0 e p.1)
 
 -- the order with one more edge, the next one
-pub ordered_more : (g : Graph) (forest out left : List Edge) (k : ℕ) (x : Edge) → IsFirstForest (IsEdge g) forest → IsOrdered g forest out left → k < length left → x ≡ get_or left k x → IsNext out left k →
+pub ordered_more : (g : Graph) (forest out left : List Edge) (k : ℕ) (x : Edge) → IsFirstForest (IsEdge g) forest → IsOrdered g forest out left → k < length left → x ≡ get_or left k x → IsNextEdge out left k →
     IsOrdered g forest (out ++ x ∷ []) (remove left k)
 ordered_more g forest out left k x h o lt read next = record {
   same = IsPermutation-more forest out left k x lt read o.same;
@@ -156,7 +157,7 @@ no_next out left none i e y l =
     none u.0 d u.1 (subst (λ j. IsLeafOf out j (get_or left u.0 d).col) (sym u.2) (subst (λ j. IsLeafOf out i j) (sym u.3) l))
 
 -- a leaf may be next
-pub next_at : (out left : List Edge) (k : ℕ) (d : Edge) → k < length left → IsLeafOf out (get_or left k d).row (get_or left k d).col → IsNext out left k
+pub next_at : (out left : List Edge) (k : ℕ) (d : Edge) → k < length left → IsLeafOf out (get_or left k d).row (get_or left k d).col → IsNextEdge out left k
 next_at out left k d lt l = inl (λ d'. subst (λ (y : Edge). IsLeafOf out y.row y.col) (get_or_default left k d d' lt) l)
 
 -- no leaf stands below place k

@@ -2,7 +2,7 @@
 use Rattle.std.proofs.Common.{ℕ, ◌+◌, ◌<◌, ◌≡◌, ◌≢◌, ◌⊎◌, List, length, get_or, cond, refl, sym, ap, ◌∙◌, ⊎_elim, inl, inr, eq-eqb, ne_eqb, arith}
 use Rattle.std.proofs.lemmas.Bool.{cases_eq}
 use Rattle.mr_graph.specs.Graph.{Vertex, row, col, IsVertex, Walk, stay, to_row}
-use Rattle.mr_graph.specs.Labels.{relabelled, place, label, IsLabelled}
+use Rattle.mr_graph.specs.Private.Labels.{relabelled, place, label, IsLabelled}
 use Rattle.mr_graph.proofs.Walks.{walk-trans, walk-sym, walk-more, walk-label}
 
 -- a vertex has a place among the labels

@@ -2,35 +2,35 @@
 use Rattle.std.proofs.Common.{ℕ, zero, suc, ◌+◌, ◌<◌, ◌≡◌, ◌↔◌, List, [], ◌∷◌, get_or, refl, sym, ap, subst, ◌∙◌, ⊎_elim, inl, inr, arith}
 use Rattle.std.specs.Prelude.{AllPairs}
 use Rattle.mr_graph.specs.declared.edge.Edge.{Edge}
-use Rattle.mr_graph.specs.Forest.{HasEdge, IsBefore, IsFirstForest}
+use Rattle.mr_graph.specs.Forest.{HasEdge, IsEarlierPlace, IsFirstForest}
 use Rattle.mr_graph.proofs.Walks.{walk-more}
 use Rattle.mr_graph.proofs.Edges.{edge_same, HasEdge-place, not_before_itself}
 
 -- row by row, and in a row by column
 abbrev pub IsRising : List Edge → Type 0
-IsRising xs = AllPairs (λ x y. IsBefore x.row x.col y.row y.col) xs
+IsRising xs = AllPairs (λ x y. IsEarlierPlace x.row x.col y.row y.col) xs
 
 -- of two places not each is before the other
-not_both : (i e i' e' : ℕ) → IsBefore i e i' e' → IsBefore i' e' i e → ⊥
+not_both : (i e i' e' : ℕ) → IsEarlierPlace i e i' e' → IsEarlierPlace i' e' i e → ⊥
 not_both i e i' e' p q = ⊎_elim
     (λ (a : i < i'). ⊎_elim (λ (b : i' < i). absurd (omega arith)) (λ (b : (i' ≡ i) × (e' < e)). absurd (omega arith)) q)
     (λ (a : (i ≡ i') × (e < e')). ⊎_elim (λ (b : i' < i). absurd (omega arith)) (λ (b : (i' ≡ i) × (e' < e)). absurd (omega arith)) q)
     p
 
 -- the first edge is before each later one
-first_before : (x : Edge) (xs : List Edge) → IsRising (x ∷ xs) → (i e : ℕ) → HasEdge xs i e → IsBefore x.row x.col i e
+first_before : (x : Edge) (xs : List Edge) → IsRising (x ∷ xs) → (i e : ℕ) → HasEdge xs i e → IsEarlierPlace x.row x.col i e
 first_before x xs rising i e h =
     let u = HasEdge-place xs i e h x in
-    subst (λ (k : ℕ). IsBefore x.row x.col k e) u.2 (subst (λ (k : ℕ). IsBefore x.row x.col (get_or xs u.0 x).row k) u.3 (rising 0 (suc u.0) x (omega arith) (let lt = u.1 in omega arith)))
+    subst (λ (k : ℕ). IsEarlierPlace x.row x.col k e) u.2 (subst (λ (k : ℕ). IsEarlierPlace x.row x.col (get_or xs u.0 x).row k) u.3 (rising 0 (suc u.0) x (omega arith) (let lt = u.1 in omega arith)))
 
 -- the rest rises too
 rest_rising : (x : Edge) (xs : List Edge) → IsRising (x ∷ xs) → IsRising xs
 rest_rising x xs rising i j d lt inside = rising (suc i) (suc j) d (omega arith) (omega arith)
 
 -- an edge of a list with another first one is in the rest
-in_rest : (x y : Edge) (ys : List Edge) (i e : ℕ) → x ≡ y → IsBefore x.row x.col i e → HasEdge (y ∷ ys) i e → HasEdge ys i e
+in_rest : (x y : Edge) (ys : List Edge) (i e : ℕ) → x ≡ y → IsEarlierPlace x.row x.col i e → HasEdge (y ∷ ys) i e → HasEdge ys i e
 in_rest x y ys i e same before h = ⊎_elim
-    (λ (p : (i ≡ y.row) × (e ≡ y.col)). absurd (not_before_itself y.row y.col (subst (λ (z : Edge). IsBefore z.row z.col y.row y.col) same (subst (λ (k : ℕ). IsBefore x.row x.col k y.col) p.0 (subst (λ (k : ℕ). IsBefore x.row x.col i k) p.1 before)))))
+    (λ (p : (i ≡ y.row) × (e ≡ y.col)). absurd (not_before_itself y.row y.col (subst (λ (z : Edge). IsEarlierPlace z.row z.col y.row y.col) same (subst (λ (k : ℕ). IsEarlierPlace x.row x.col k y.col) p.0 (subst (λ (k : ℕ). IsEarlierPlace x.row x.col i k) p.1 before)))))
     (λ (p : HasEdge ys i e). p)
     h
 
@@ -63,7 +63,7 @@ module _ (G : ℕ → ℕ → Type 0) (xs ys : List Edge) (here : IsFirstForest 
   Agree i e = HasEdge xs i e ↔ HasEdge ys i e
 
   -- where they agree before a place they agree there
-  agree_at : (i e : ℕ) → ((i' e' : ℕ) → IsBefore i' e' i e → Agree i' e') → Agree i e
+  agree_at : (i e : ℕ) → ((i' e' : ℕ) → IsEarlierPlace i' e' i e → Agree i' e') → Agree i e
   agree_at i e before = (
     (λ h. let was = (here.taken i e).0 h in (there.taken i e).1 (was.0, λ w. was.1 (walk-more (λ i' e' y. ((before i' e' y.1).1 y.0, y.1)) w))),
     (λ h. let was = (there.taken i e).0 h in (here.taken i e).1 (was.0, λ w. was.1 (walk-more (λ i' e' y. ((before i' e' y.1).0 y.0, y.1)) w))),

@@ -9,12 +9,12 @@ HasEdge [] i e = ⊥
 HasEdge (x ∷ xs) i e = ((i ≡ x.row) × (e ≡ x.col)) ⊎ HasEdge xs i e
 
 -- row by row, and in a row by column
-abbrev pub IsBefore : (i e i' e' : ℕ) → Type 0
-IsBefore i e i' e' = (i < i') ⊎ ((i ≡ i') × (e < e'))
+abbrev pub IsEarlierPlace : (i e i' e' : ℕ) → Type 0
+IsEarlierPlace i e i' e' = (i < i') ⊎ ((i ≡ i') × (e < e'))
 
 -- the edges of the list before the place (i, e)
 abbrev pub HasEdgeBefore : List Edge → (i e : ℕ) → ℕ → ℕ → Type 0
-HasEdgeBefore xs i e i' e' = HasEdge xs i' e' × IsBefore i' e' i e
+HasEdgeBefore xs i e i' e' = HasEdge xs i' e' × IsEarlierPlace i' e' i e
 
 -- row i and column e are joined already, so that an edge between them closes a cycle with those of F
 abbrev pub ClosesCycle : (ℕ → ℕ → Type 0) → ℕ → ℕ → Type 0
@@ -22,7 +22,7 @@ ClosesCycle F i e = Walk F (row i) (col e)
 
 -- in row-major order, just the edges of G that close no cycle with the edges taken before
 pub record IsFirstForest (G : ℕ → ℕ → Type 0) (xs : List Edge) : Type 0 where
-  pub rising : AllPairs (λ x y. IsBefore x.row x.col y.row y.col) xs
+  pub rising : AllPairs (λ x y. IsEarlierPlace x.row x.col y.row y.col) xs
   pub taken : (i e : ℕ) → HasEdge xs i e ↔ (G i e × ¬ (ClosesCycle (HasEdgeBefore xs i e) i e))
 
 -- the edges of F but the one of row i and column e

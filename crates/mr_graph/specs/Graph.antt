@@ -1,7 +1,6 @@
 -- Bipartite graphs of rows and columns, and walks along edges.
-use Rattle.std.specs.Prelude.{◌≡◌, ℕ, ◌<◌, ◌≤◌, List, slice_index}
+use Rattle.std.specs.Prelude.{◌≡◌, ℕ, ◌<◌, List, slice_index}
 use Rattle.std.specs.Int.{bit_at}
-use Rattle.mr_set.specs.declared.TheConstants.{ELEMENTS}
 
 -- a number of rows, a number of columns, and for each row the mask of its columns
 pub record Graph : Type 0 where
@@ -14,11 +13,6 @@ pub record IsEdge (g : Graph) (i e : ℕ) : Type 0 where
   pub row : i < g.rows
   pub col : e < g.cols
   pub set : bit_at (slice_index g.columns i) e ≡ 1
-
--- the graph fits in its fixed words
-pub record IsStored (row_count col_count : ℕ) (columns : List ℕ) : Type 0 where
-  pub rows : row_count ≤ ELEMENTS
-  pub cols : col_count ≤ ELEMENTS
 
 -- a vertex is a row or a column
 pub data Vertex : Type 0 where

@@ -2,7 +2,6 @@
 use Rattle.std.specs.Prelude.{◌≡◌, ◌⊎◌, ℕ, ◌<◌, List, length, take, Any, slice_index_or}
 use Rattle.mr_graph.specs.declared.edge.Edge.{Edge}
 use Rattle.mr_graph.specs.Graph.{Vertex, row, col, Walk}
-use Rattle.mr_graph.specs.Forest.{HasEdge}
 
 -- an edge of the list ends at the vertex
 abbrev pub Touches : List Edge → Vertex → Type 0
@@ -21,8 +20,3 @@ IsFirstAt G xs i = (v : Vertex) → Touches xs v → ¬ (Walk G v (row i))
 abbrev pub IsForestOrder : (ℕ → ℕ → Type 0) → List Edge → Type 0
 IsForestOrder G xs = (k : ℕ) (d : Edge) → k < length xs →
     IsFirstAt G (take k xs) (slice_index_or xs k d).row ⊎ IsLeafOf (take k xs) (slice_index_or xs k d).row (slice_index_or xs k d).col
-
--- taken edges touch exactly one end of the edge at place k, or of no edge that is left
-abbrev pub IsNext : List Edge → List Edge → ℕ → Type 0
-IsNext taken left k =
-    ((d : Edge) → IsLeafOf taken (slice_index_or left k d).row (slice_index_or left k d).col) ⊎ ((i e : ℕ) → HasEdge left i e → ¬ (IsLeafOf taken i e))

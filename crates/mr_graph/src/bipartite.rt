@@ -2,7 +2,7 @@ ghost use Rattle.std.specs.Prelude.{◌≡◌, ◌↔◌, ◌⊎◌, ◌<◌, �
 ghost use Rattle.mr_set.specs.declared.TheConstants.{ELEMENTS};
 ghost use Rattle.mr_graph.specs.Graph.{IsEdge};
 ghost use Rattle.mr_graph.specs.Forest.{HasEdge, IsAcyclic, IsFirstForest, Spans};
-ghost use Rattle.mr_graph.specs.Grown.{IsGrown};
+ghost use Rattle.mr_graph.specs.Private.Grown.{IsGrown};
 
 use crate::labels::{apart, unite};
 use crate::{Edge, EdgeList};
@@ -24,7 +24,8 @@ pub struct Bipartite {
 impl Model for Bipartite {
     ghost use Rattle.std.specs.Prelude.{◌≡◌, ◌≤◌, ◌<◌, ◌^◌, ℕ, length, slice_index};
     ghost use Rattle.mr_set.specs.declared.TheConstants.{ELEMENTS};
-    ghost use Rattle.mr_graph.specs.Graph.{Graph, IsStored};
+    ghost use Rattle.mr_graph.specs.Graph.{Graph};
+    ghost use Rattle.mr_graph.specs.Private.Graph.{IsStored};
 
     ghost Value = { Graph };
 
@@ -34,6 +35,7 @@ impl Model for Bipartite {
 }
 
 impl Bipartite {
+    /// The graph without edges.
     pub fn new(rows: u32, cols: u32) -> Bipartite
         requires rows { rows ≤ ELEMENTS }
         requires cols { cols ≤ ELEMENTS }
@@ -47,6 +49,7 @@ impl Bipartite {
         }
     }
 
+    /// Adds the edge, which the graph may have already.
     pub fn add(&mut self, e: Edge)
         requires row { e.row < self.old.rows }
         requires col { e.col < self.old.cols }
@@ -57,6 +60,7 @@ impl Bipartite {
         self.columns[e.row as usize] = had | 1 << e.col;
     }
 
+    /// Whether the graph has the edge.
     pub fn has(&self, e: Edge) -> bool
         requires row { e.row < self.now.rows }
         requires col { e.col < self.now.cols }

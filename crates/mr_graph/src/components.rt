@@ -1,5 +1,6 @@
 ghost use Rattle.std.specs.Prelude.{◌≡◌, ◌↔◌, ◌<◌, ◌≤◌, ◌+◌, ◌^◌, ◌≢◌, ℕ, IfOk, MatchOption, length, slice_index};
-ghost use Rattle.mr_graph.specs.Components.{IsComponents, IsNumbered};
+ghost use Rattle.mr_graph.specs.Components.{IsComponents};
+ghost use Rattle.mr_graph.specs.Private.Components.{IsNumbered};
 
 use crate::Bipartite;
 use mr_io::Bytes;

@@ -1,8 +1,9 @@
-ghost use Rattle.std.specs.Prelude.{◌≡◌, ◌↔◌, ◌<◌, ◌≤◌, ◌+◌, ℕ, IsTrue, IfOk, Any, length};
+ghost use Rattle.std.specs.Prelude.{◌≡◌, ◌↔◌, ◌<◌, ◌≤◌, ◌+◌, ℕ, IsTrue, IfOk, length};
 ghost use Rattle.std.specs.List.Sorted.{IsPermutation};
-ghost use Rattle.mr_graph.specs.Graph.{IsEdge};
+ghost use Rattle.mr_graph.specs.Graph.{IsEdge, row, col};
 ghost use Rattle.mr_graph.specs.Forest.{IsFirstForest};
-ghost use Rattle.mr_graph.specs.Order.{IsForestOrder, IsLeafOf, IsNext};
+ghost use Rattle.mr_graph.specs.Order.{Touches, IsForestOrder, IsLeafOf};
+ghost use Rattle.mr_graph.specs.Private.Order.{IsNextEdge};
 
 use crate::{Bipartite, Edge, EdgeList};
 use std::alloc::{AllocError, Global};
@@ -30,7 +31,7 @@ impl Bipartite {
 fn next_place(taken: &[Edge], left: &[Edge]) -> usize
     requires { 0 < length left.now }
     ensures within { result < length left.now }
-    ensures next { IsNext taken.now left.now result }
+    ensures next { IsNextEdge taken.now left.now result }
 {
     for (k, edge) in left.iter().enumerate() {
         if is_leaf(taken, *edge) {
@@ -46,14 +47,16 @@ fn is_leaf(taken: &[Edge], edge: Edge) -> bool
     touches_row(taken, edge.row) != touches_col(taken, edge.col)
 }
 
-fn touches_row(taken: &[Edge], i: u32) -> bool
-    ensures { IsTrue result ↔ Any (λ x. x.row ≡ i) taken.now }
+// Whether an edge of the list ends at the row.
+fn touches_row(edges: &[Edge], i: u32) -> bool
+    ensures { IsTrue result ↔ Touches edges.now (row i) }
 {
-    taken.iter().any(|x| x.row == i)
+    edges.iter().any(|x| x.row == i)
 }
 
-fn touches_col(taken: &[Edge], e: u32) -> bool
-    ensures { IsTrue result ↔ Any (λ x. x.col ≡ e) taken.now }
+/// Whether an edge of the list ends at the column.
+pub fn touches_col(edges: &[Edge], e: u32) -> bool
+    ensures { IsTrue result ↔ Touches edges.now (col e) }
 {
-    taken.iter().any(|x| x.col == e)
+    edges.iter().any(|x| x.col == e)
 }

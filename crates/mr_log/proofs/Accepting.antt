@@ -7,21 +7,21 @@ use Rattle.mr_set.specs.Matroid.{Presentation, IsBasis, IsMatroid, FailsExchange
 use Rattle.mr_matroid.specs.Exchange.{HasNoBasis}
 use Rattle.mr_text.specs.Text.{Lacks}
 use Rattle.mr_text.specs.Format.{grammar, size, IsLineOf, StandsFor, IsTextOf}
-use Rattle.mr_text.specs.Tables.{fixed, keyed}
+use Rattle.mr_text.specs.Tables.{keyed}
 use Rattle.mr_text.proofs.Decimals.{decimal_without}
-use Rattle.mr_text.proofs.Formats.{lacks-append}
+use Rattle.mr_text.proofs.Formats.{lacks-append, fixed_stands}
 use Rattle.mr_text.proofs.OneOutcome.{one_value, no_fault_of, one_fault_of}
 use Rattle.mr_file.specs.File.{file_text}
-use Rattle.mr_file.specs.declared.fault.Measure.{Measure}
 use Rattle.mr_file.proofs.Whole.{file_stands}
+use Rattle.mr_file.proofs.AfterFile.{file_leads}
 use Rattle.mr_nogood.specs.declared.row.Row.{Row}
 use Rattle.mr_nogood.specs.declared.row.Cite.{Cite}
-use Rattle.mr_log.specs.Lines.{step_table, end_table, step_text, cite_text, IsStep, IsLogCite}
+use Rattle.mr_log.specs.Lines.{step_table, end_table, step_text, cite_text, IsLogStep, IsLogCite}
 use Rattle.mr_log.specs.Log.{StepsExceed, step_lines, log_format, log_text, IsLog, IsLogOf}
 use Rattle.mr_log.specs.Reading.{IsLogFault, IsLogRefusal, file_end, OneLogRefusal, NoLogRefusal, OneLog}
-use Rattle.mr_log.specs.Stages.{from_steps, from_count, field_text}
-use Rattle.mr_log.specs.Words.{step_words, cite_words}
-use Rattle.mr_log.specs.Written.{steps_text}
+use Rattle.mr_log.specs.Private.Stages.{from_steps, from_count, field_text}
+use Rattle.mr_log.specs.Private.Words.{step_words, cite_words}
+use Rattle.mr_log.specs.Private.Written.{steps_text}
 use Rattle.mr_log.specs.declared.TheConstants.{STEPS}
 use Rattle.mr_log.specs.declared.log.Log.{Log}
 use Rattle.mr_log.specs.declared.fault.Why.{Why}
@@ -30,14 +30,10 @@ use Rattle.mr_log.specs.declared.fault.LogFault.{LogFault}
 use Rattle.mr_log.specs.declared.fault.LogFault.TheVariants.{Bad, Memory}
 use Rattle.mr_log.proofs.Splitting.{lacks-join}
 use Rattle.mr_log.proofs.Steps.{newline_apart, step_lacks, step_join, cite_lacks, end_join}
-use Rattle.mr_log.proofs.Outcomes.{file_leads, steps_fit}
+use Rattle.mr_log.proofs.Outcomes.{steps_fit}
 use Rattle.mr_log.proofs.LogText.{order_within, AreSteps, line_text, log_pieces}
 use Rattle.mr_log.proofs.Making.{text_read}
 use Rattle.mr_log.proofs.SharpLog.{log_sharp}
-
--- a line of a fixed text
-fixed_stands : (text tail : List ℕ) → Lacks 10 text → IsLineOf (fixed {M = Measure} text) (text ++ 10 ∷ tail) tt tail
-fixed_stands text tail whole = record { line = text; begins = record { text = refl; whole = whole }; spelled = refl; fits = λ m h. h }
 
 -- the line of the number of steps
 count_stands : (count : ℕ) (tail : List ℕ) → count ≤ STEPS → IsLineOf (keyed (codes "steps ") StepsExceed) ((codes "steps " ++ decimal count) ++ 10 ∷ tail) count tail
@@ -49,7 +45,7 @@ count_stands count tail le = record {
 }
 
 -- the line of a step
-step_stands : (m : Presentation) (q number : ℕ) (row : Row) (tail : List ℕ) → m.elements ≤ 32 → 2 ≤ q → q ≤ 9 → IsStep m q number row → IsLineOf (step_table m q number) (step_text q row ++ 10 ∷ tail) row tail
+step_stands : (m : Presentation) (q number : ℕ) (row : Row) (tail : List ℕ) → m.elements ≤ 32 → 2 ≤ q → q ≤ 9 → IsLogStep m q number row → IsLineOf (step_table m q number) (step_text q row ++ 10 ∷ tail) row tail
 step_stands m q number row tail limit low nine is = record {
   line = step_text q row;
   begins = record { text = refl; whole = subst (Lacks 10) (step_join q row low (let size = is.count in omega arith)) (lacks-join (step_words q row) (step_lacks m 10 q number row newline_apart limit nine is)) };
@@ -77,8 +73,8 @@ steps_stand q m old [] last number rest limit low nine each is = (
   (ap (λ (s : List Row). record { matroid = m; q = q; steps = s; last = last }) (append-nil old), refl, (let e : number + 0 + 1 ≡ number + 1 = omega arith in e)),
 )
 steps_stand q m old (row ∷ more) last number rest limit low nine each is =
-    let here : IsStep m q (length old) row = (let e : length old + 0 ≡ length old = omega arith in subst (λ k. IsStep m q k row) e (each 0 row refl)) in
-    let later : AreSteps m q (length (old ++ row ∷ [])) more = λ j r at. let size = length-append old (row ∷ []) in let e : length old + suc j ≡ length (old ++ row ∷ []) + j = omega arith in subst (λ k. IsStep m q k r) e (each (suc j) r at) in
+    let here : IsLogStep m q (length old) row = (let e : length old + 0 ≡ length old = omega arith in subst (λ k. IsLogStep m q k row) e (each 0 row refl)) in
+    let later : AreSteps m q (length (old ++ row ∷ [])) more = λ j r at. let size = length-append old (row ∷ []) in let e : length old + suc j ≡ length (old ++ row ∷ []) + j = omega arith in subst (λ k. IsLogStep m q k r) e (each (suc j) r at) in
     let tail = steps_stand q m (old ++ row ∷ []) more last (number + 1) rest limit low nine later is in
     let text = steps_text q more ++ ((codes "end " ++ cite_text last) ++ 10 ∷ rest) in (
       row,
@@ -103,7 +99,7 @@ log_stands l is =
     let counted = (codes "steps " ++ decimal (length l.steps)) ++ 10 ∷ after in
     let file = file_stands 3 l.matroid counted is.matroid.presentation is.limits in
     let at = 3 + 1 + 1 + 1 + 1 + length l.matroid.nonbases + 1 in
-    let steps = steps_stand l.q l.matroid [] l.steps l.last (at + 1) [] is.limits.elements range.0 range.1 (λ j row there. let e : j ≡ 0 + j = omega arith in subst (λ k. IsStep l.matroid l.q k row) e (is.steps j row there)) is.last in
+    let steps = steps_stand l.q l.matroid [] l.steps l.last (at + 1) [] is.limits.elements range.0 range.1 (λ j row there. let e : j ≡ 0 + j = omega arith in subst (λ k. IsLogStep l.matroid l.q k row) e (is.steps j row there)) is.last in
     let leads = file_leads (from_count l.q) 3 (file_text l.matroid ++ counted) l.matroid counted at file in (
       at + 1 + length l.steps + 1,
       subst (λ w. StandsFor (log_format l.q) 1 w l [] (at + 1 + length l.steps + 1)) (log_pieces l [] ∙ append-nil (log_text l)) (
@@ -133,7 +129,7 @@ is_log q bytes l order text matroid =
         limits = read.limits;
         field = subst IsOrder (sym read.field) order;
         count = read.count;
-        steps = λ j row at. subst (λ k. IsStep l.matroid k j row) (sym read.field) (let e : 0 + j ≡ j = omega arith in subst (λ k. IsStep l.matroid q k row) e (read.steps j row at));
+        steps = λ j row at. subst (λ k. IsLogStep l.matroid k j row) (sym read.field) (let e : 0 + j ≡ j = omega arith in subst (λ k. IsLogStep l.matroid q k row) e (read.steps j row at));
         last = read.last;
       };
       field = read.field;

@@ -10,9 +10,9 @@ use Rattle.mr_set.proofs.Sorted.{all_head, all_tail}
 use Rattle.mr_assign.specs.declared.TheConstants.{VALUES}
 use Rattle.mr_nogood.specs.declared.row.Cite.{Cite}
 use Rattle.mr_nogood.specs.declared.row.Cite.TheVariants.{Nothing, Test, Slot}
+use Rattle.mr_text.proofs.Decimals.{decimal_one}
 use Rattle.mr_log.specs.Lines.{IsLogCite}
-use Rattle.mr_log.specs.Words.{IsCites, set_words, cite_words, cites_words}
-use Rattle.mr_log.proofs.Pairs.{decimal_one}
+use Rattle.mr_log.specs.Private.Words.{IsCites, set_words, cite_words, cites_words}
 use Rattle.mr_log.proofs.Cites.{NoCite, test_or_slot}
 
 -- words that begin with the elements of a set

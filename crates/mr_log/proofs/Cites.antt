@@ -7,9 +7,9 @@ use Rattle.mr_set.specs.Matroid.{Presentation}
 use Rattle.mr_set.proofs.Sorted.{all_head, all_tail, all_cons, all_none, below_all, all_above, sorted_cons, sorted_parts, sorted_none, with_front}
 use Rattle.mr_nogood.specs.declared.row.Cite.{Cite}
 use Rattle.mr_nogood.specs.declared.row.Cite.TheVariants.{Nothing, Test, Slot}
+use Rattle.mr_text.proofs.Decimals.{decimal_one}
 use Rattle.mr_log.specs.Lines.{IsLogCite}
-use Rattle.mr_log.specs.Words.{Reads, IsSetFrom, set_words, cite_words}
-use Rattle.mr_log.proofs.Pairs.{decimal_one}
+use Rattle.mr_log.specs.Private.Words.{Reads, IsSetFrom, set_words, cite_words}
 
 -- no words of a number stand first
 abbrev pub NoNumber : List (List ℕ) → Type 0

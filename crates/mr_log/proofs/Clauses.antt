@@ -8,7 +8,7 @@ use Rattle.std.proofs.lemmas.List.Elements.{All-set, All-replicate}
 use Rattle.mr_assign.specs.Assign.{no_values}
 use Rattle.mr_assign.specs.declared.TheConstants.{POSITIONS, VALUES}
 use Rattle.mr_log.specs.Lines.{pair_text, pair_texts}
-use Rattle.mr_log.specs.Words.{Reads, IsClauseFrom, or_dash, pair_words, clause_words}
+use Rattle.mr_log.specs.Private.Words.{Reads, IsClauseFrom, or_dash, pair_words, clause_words}
 use Rattle.mr_log.proofs.Pairs.{pair_one, no_pair, pair_texts-set, Least, vacant, valued, least}
 
 -- a text that was compared with another and is the same

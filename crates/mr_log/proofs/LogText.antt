@@ -1,28 +1,25 @@
 -- The text of a whole log.
-use Rattle.std.proofs.Common.{◌≡◌, ℕ, zero, suc, ◌+◌, ◌≤◌, List, [], ◌∷◌, ◌++◌, length, refl, sym, ap, subst, ◌∙◌, arith, append_assoc, append-nil, Option, Some, None, codes, map}
+use Rattle.std.proofs.Common.{◌≡◌, ℕ, zero, suc, ◌+◌, ◌≤◌, List, [], ◌∷◌, ◌++◌, length, refl, sym, ap, subst, ◌∙◌, arith, append_assoc, append-nil, Some, codes, map}
 use Rattle.std.specs.Prelude.{decimal, slice_get}
 use Rattle.std.proofs.lemmas.List.{length-append}
 use Rattle.mr_field.specs.Order.{IsOrder}
 use Rattle.mr_field.specs.Gf.{gf2, gf3, gf4, gf5, gf7, gf8, gf9}
 use Rattle.mr_set.specs.Matroid.{Presentation, IsPresentation}
 use Rattle.mr_matroid.specs.Exchange.{IsWithinLimits}
-use Rattle.mr_text.specs.Format.{Format, done, line_of, StandsFor}
-use Rattle.mr_text.proofs.Formats.{shorter}
+use Rattle.mr_text.specs.Format.{StandsFor}
 use Rattle.mr_text.proofs.Listings.{lines-append}
-use Rattle.mr_file.specs.File.{set_lines, file, file_lines, file_text}
-use Rattle.mr_file.specs.Reading.{whole_file, end_line}
-use Rattle.mr_file.specs.declared.fault.Measure.{Measure}
+use Rattle.mr_file.specs.File.{file, file_lines, file_text}
 use Rattle.mr_file.specs.declared.fault.Measure.TheVariants.{Sets}
 use Rattle.mr_file.proofs.Whole.{file_read, at_most}
+use Rattle.mr_file.proofs.AfterFile.{FileThen, file_then}
 use Rattle.mr_nogood.specs.declared.row.Row.{Row}
 use Rattle.mr_nogood.specs.declared.row.Cite.{Cite}
-use Rattle.mr_log.specs.Lines.{step_text, cite_text, IsStep, IsLogCite}
+use Rattle.mr_log.specs.Lines.{step_text, cite_text, IsLogStep, IsLogCite}
 use Rattle.mr_log.specs.Log.{step_lines, log_format, log_text}
-use Rattle.mr_log.specs.Stages.{from_steps, from_count, field_text}
-use Rattle.mr_log.specs.Written.{steps_text}
+use Rattle.mr_log.specs.Private.Stages.{from_steps, from_count, field_text}
+use Rattle.mr_log.specs.Private.Written.{steps_text}
 use Rattle.mr_log.specs.declared.TheConstants.{STEPS}
 use Rattle.mr_log.specs.declared.log.Log.{Log}
-use Rattle.mr_log.proofs.Outcomes.{after_sets}
 
 -- how many elements a field may have
 pub order_within : (q : ℕ) → IsOrder q → (2 ≤ q) × (q ≤ 9)
@@ -34,59 +31,14 @@ order_within q (gf7, is) = (omega arith, omega arith)
 order_within q (gf8, is) = (omega arith, omega arith)
 order_within q (gf9, is) = (omega arith, omega arith)
 
--- lines take a byte each at least
-pub numbers_within : {M X : Type 0} (format : Format M X) (number : ℕ) (bytes : List ℕ) (x : X) (rest : List ℕ) (next : ℕ) → StandsFor format number bytes x rest next → next + length rest ≤ number + length bytes
-numbers_within (done y) number bytes x rest next is = let e = ap length is.1 in let n = is.2 in omega arith
-numbers_within (line_of table due) number bytes x rest next (a, after, line, more) =
-    let here = shorter table bytes a after line in
-    let later = numbers_within (due a) (number + 1) after x rest next more in
-    omega arith
-
--- the file, and what is due after it
-pub record FileThen {X : Type 0} (due : Presentation → Format Measure X) (number : ℕ) (bytes : List ℕ) (x : X) (rest : List ℕ) (next : ℕ) : Type 0 where
-  pub m : Presentation
-  pub after : List ℕ
-  pub at : ℕ
-  pub file : StandsFor whole_file number bytes m after at
-  pub then : StandsFor (due m) at after x rest next
-
--- the sets, and what is due after the file
-record SetsThen {X : Type 0} (n r k : ℕ) (sets : List (List ℕ)) (last : Option (List ℕ)) (due : Presentation → Format Measure X) (number : ℕ) (bytes : List ℕ) (x : X) (rest : List ℕ) (next : ℕ) : Type 0 where
-  m : Presentation
-  after : List ℕ
-  at : ℕ
-  sets_stand : StandsFor (set_lines n r k sets last (end_line n r)) number bytes m after at
-  then : StandsFor (due m) at after x rest next
-
--- lines of sets are cut after the last one of the file
-sets_then : {X : Type 0} (n r k : ℕ) (sets : List (List ℕ)) (last : Option (List ℕ)) (due : Presentation → Format Measure X) (number : ℕ) (bytes : List ℕ) (x : X) (rest : List ℕ) (next : ℕ)
-    → StandsFor (set_lines n r k sets last (after_sets n r due)) number bytes x rest next → SetsThen n r k sets last due number bytes x rest next
-unfolding set_lines
-sets_then n r zero sets last due number bytes x rest next (u, after, line, more) = record {
-  m = record { elements = n; rank = r; nonbases = sets };
-  after = after;
-  at = number + 1;
-  sets_stand = (u, after, line, (refl, refl, refl));
-  then = more;
-}
-sets_then n r (suc k) sets last due number bytes x rest next (y, after, line, more) =
-    let tail = sets_then n r k (sets ++ y ∷ []) (Some y) due (number + 1) after x rest next more in
-    record { m = tail.m; after = tail.after; at = tail.at; sets_stand = (y, after, line, tail.sets_stand); then = tail.then }
-
--- a text is cut after the file
-pub file_then : {X : Type 0} (due : Presentation → Format Measure X) (number : ℕ) (bytes : List ℕ) (x : X) (rest : List ℕ) (next : ℕ) → StandsFor (file due) number bytes x rest next → FileThen due number bytes x rest next
-file_then due number bytes x rest next (u, r1, l1, (n, r2, l2, (r, r3, l3, (k, r4, l4, lines)))) =
-    let s = sets_then n r k [] None due (number + 1 + 1 + 1 + 1) r4 x rest next lines in
-    record { m = s.m; after = s.after; at = s.at; file = (u, r1, l1, (n, r2, l2, (r, r3, l3, (k, r4, l4, s.sets_stand)))); then = s.then }
-
 -- rows that are steps from this number on
 abbrev pub AreSteps : Presentation → ℕ → ℕ → List Row → Type 0
-AreSteps m q number rows = (j : ℕ) (row : Row) → slice_get rows j ≡ Some row → IsStep m q (number + j) row
+AreSteps m q number rows = (j : ℕ) (row : Row) → slice_get rows j ≡ Some row → IsLogStep m q (number + j) row
 
 -- a step before others
-steps_cons : (m : Presentation) (q number : ℕ) (row : Row) (rows : List Row) → IsStep m q number row → AreSteps m q (number + 1) rows → AreSteps m q number (row ∷ rows)
-steps_cons m q number row rows here more zero r is = let e : number ≡ number + 0 = omega arith in subst (λ k. IsStep m q k r) e (subst (IsStep m q number) (let h : row ≡ r = cc in h) here)
-steps_cons m q number row rows here more (suc j) r is = let e : number + 1 + j ≡ number + suc j = omega arith in subst (λ k. IsStep m q k r) e (more j r is)
+steps_cons : (m : Presentation) (q number : ℕ) (row : Row) (rows : List Row) → IsLogStep m q number row → AreSteps m q (number + 1) rows → AreSteps m q number (row ∷ rows)
+steps_cons m q number row rows here more zero r is = let e : number ≡ number + 0 = omega arith in subst (λ k. IsLogStep m q k r) e (subst (IsLogStep m q number) (let h : row ≡ r = cc in h) here)
+steps_cons m q number row rows here more (suc j) r is = let e : number + 1 + j ≡ number + suc j = omega arith in subst (λ k. IsLogStep m q k r) e (more j r is)
 
 -- the steps that lines stand for
 record StepsRead (q : ℕ) (m : Presentation) (k : ℕ) (steps : List Row) (number : ℕ) (bytes : List ℕ) (l : Log) (rest : List ℕ) (next : ℕ) : Type 0 where

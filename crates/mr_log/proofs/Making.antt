@@ -1,5 +1,5 @@
 -- The matroid of a log is made once the whole text was read.
-use Rattle.std.proofs.Common.{◌≡◌, ℕ, ◌≤◌, List, [], ◌∷◌, length, refl, sym, subst, arith, Result, Ok, Err}
+use Rattle.std.proofs.Common.{◌≡◌, ℕ, ◌≤◌, List, [], ◌∷◌, length, sym, subst, arith, Result, Ok, Err}
 use Rattle.std.specs.Prelude.{MatchResult}
 use Rattle.std.specs.Borrow.{Bor}
 use Rattle.mr_set.specs.Matroid.{Presentation, IsPresentation, IsMatroid}
@@ -9,12 +9,13 @@ use Rattle.mr_matroid.specs.Exchange.{IsWithinLimits}
 use Rattle.mr_text.specs.Format.{Format, StandsFor, IsFirstFault, IsTextOf}
 use Rattle.mr_file.specs.Reading.{whole_file, listing}
 use Rattle.mr_file.specs.declared.fault.Measure.{Measure}
+use Rattle.mr_file.proofs.AfterFile.{file_leads}
 use Rattle.mr_log.specs.Log.{log_format}
-use Rattle.mr_log.specs.Stages.{from_count, from_file, found_log, NamesBad}
+use Rattle.mr_log.specs.Private.Stages.{from_count, from_file, found_log, NamesBad}
 use Rattle.mr_log.specs.declared.log.Log.{Log}
 use Rattle.mr_log.specs.declared.read.Found.{Found}
 use Rattle.mr_log.specs.declared.fault.LogFault.{LogFault}
-use Rattle.mr_log.proofs.Outcomes.{bad_map, file_leads}
+use Rattle.mr_log.proofs.Outcomes.{bad_map}
 use Rattle.mr_log.proofs.LogText.{LogRead, log_read}
 
 -- what was read from some line on
@@ -27,11 +28,6 @@ after_file q number bytes m rest next (Ok x) file h = let leads = file_leads (fr
 after_file q number bytes m rest next (Err e) file h =
     let leads = file_leads (from_count q) number bytes m rest next file in
     bad_map (IsFirstFault (from_count q m) next rest) (IsFirstFault (from_file q) number bytes) e leads.faults h
-
--- a rest of no bytes
-pub empty : (rest : List ℕ) → length rest ≡ 0 → rest ≡ []
-empty [] is = refl
-empty (b ∷ rest) is = absurd (omega arith)
 
 -- the numbers and sets of a log are within the limits
 pub few_nonbases : (m : Presentation) → IsPresentation m → IsWithinLimits m → length m.nonbases ≤ SETS

@@ -7,22 +7,23 @@ use Rattle.mr_text.specs.Format.{FirstFault, grammar, size, Table, Format, done,
 use Rattle.mr_text.specs.Tables.{never, fixed, keyed}
 use Rattle.mr_text.proofs.Leads.{Leads, leads_on, leads_fault}
 use Rattle.mr_file.specs.File.{set_table, set_lines, file}
-use Rattle.mr_file.specs.Reading.{Names, whole_file, end_line}
+use Rattle.mr_file.specs.Reading.{Names, whole_file}
+use Rattle.mr_file.specs.Private.Reading.{end_line}
 use Rattle.mr_file.specs.declared.fault.Measure.{Measure}
 use Rattle.mr_file.specs.declared.fault.Measure.TheVariants.{Elements, Rank, Sets, Nonbases}
 use Rattle.mr_file.specs.declared.fault.FileFault.{FileFault}
 use Rattle.mr_file.specs.declared.fault.FileFault.TheVariants as file_fault
 use Rattle.mr_nogood.specs.declared.row.Row.{Row}
 use Rattle.mr_nogood.specs.declared.row.Cite.{Cite}
+use Rattle.mr_text.proofs.Decimals.{decimal_one}
 use Rattle.mr_log.specs.Lines.{step_table, end_table}
 use Rattle.mr_log.specs.Log.{StepsExceed, step_lines}
-use Rattle.mr_log.specs.Stages.{from_end, from_steps, field_text, NamesBad, NamesLine, log_fault}
+use Rattle.mr_log.specs.Private.Stages.{from_end, from_steps, field_text, NamesBad, NamesLine, log_fault}
 use Rattle.mr_log.specs.declared.TheConstants.{STEPS}
 use Rattle.mr_log.specs.declared.log.Log.{Log}
 use Rattle.mr_log.specs.declared.fault.Why.TheVariants.{Grammar, Size, Basis, Exchange, Step, End}
 use Rattle.mr_log.specs.declared.fault.LogFault.{LogFault}
 use Rattle.mr_log.specs.declared.fault.LogFault.TheVariants.{Bad, Memory}
-use Rattle.mr_log.proofs.Pairs.{decimal_one}
 
 -- a refusal by one fact is a refusal by another that follows from it
 pub bad_map : (P Q : FirstFault Measure → Type 0) (e : LogFault) → ((f : FirstFault Measure) → P f → Q f) → NamesBad P e → NamesBad Q e
@@ -49,59 +50,6 @@ named P Q f line e is more h = subst (NamesBad Q) (sym is) (by_fault f h)
     by_fault file_fault.NoBasis p = absurd p
     by_fault (file_fault.Exchange b1 b2 x) p = absurd p
     by_fault file_fault.Memory p = tt
-
--- from before a line to a later point
-pub leads_over : {M X A : Type 0} (table : Table M A) (due : A → Format M X) (number : ℕ) (bytes : List ℕ) (a : A) (after : List ℕ) (to : Format M X) (at : ℕ) (rest : List ℕ)
-    → IsLineOf table bytes a after → Leads (due a) (number + 1) after to at rest → Leads (line_of table due) number bytes to at rest
-leads_over table due number bytes a after to at rest line leads = record {
-  faults = λ fault h. inr (a, after, line, leads.faults fault h);
-  values = λ x end next h. (a, after, line, leads.values x end next h);
-}
-
--- what is due after the last set
-abbrev pub after_sets : {X : Type 0} → ℕ → ℕ → (Presentation → Format Measure X) → List (List ℕ) → Format Measure X
-after_sets n r due sets = line_of (fixed (codes "end")) (λ _. due (record { elements = n; rank = r; nonbases = sets }))
-
--- the sets lead to what is due after the file
-sets_lead : {X : Type 0} (n r k : ℕ) (sets : List (List ℕ)) (last : Option (List ℕ)) (due : Presentation → Format Measure X) (number : ℕ) (bytes : List ℕ) (m : Presentation) (rest : List ℕ) (next : ℕ)
-    → StandsFor (set_lines n r k sets last (end_line n r)) number bytes m rest next → Leads (set_lines n r k sets last (after_sets n r due)) number bytes (due m) next rest
-unfolding set_lines
-sets_lead {X} n r zero sets last due number bytes m rest next (u, after, line, (is, same, at)) =
-    subst (λ (p : Presentation). Leads (after_sets n r due sets) number bytes (due p) next rest) (sym is)
-    (subst (λ (w : List ℕ). Leads (after_sets n r due sets) number bytes (due (record { elements = n; rank = r; nonbases = sets })) next w) (sym same)
-    (subst (λ k. Leads (after_sets n r due sets) number bytes (due (record { elements = n; rank = r; nonbases = sets })) k after) (sym at)
-    (leads_over (fixed (codes "end")) (λ _. due (record { elements = n; rank = r; nonbases = sets })) number bytes tt after (due (record { elements = n; rank = r; nonbases = sets })) (number + 1) after line
-    (record { faults = λ fault h. h; values = λ x end k h. h }))))
-sets_lead n r (suc k) sets last due number bytes m rest next (x, after, line, more) =
-    leads_over (set_table n r last) (λ y. set_lines n r k (sets ++ y ∷ []) (Some y) (after_sets n r due)) number bytes x after (due m) next rest line
-    (sets_lead n r k (sets ++ x ∷ []) (Some x) due (number + 1) after m rest next more)
-
--- the file leads to what is due after it
-pub file_leads : {X : Type 0} (due : Presentation → Format Measure X) (number : ℕ) (bytes : List ℕ) (m : Presentation) (rest : List ℕ) (next : ℕ) → StandsFor whole_file number bytes m rest next → Leads (file due) number bytes (due m) next rest
-file_leads due number bytes m rest next (u, r1, l1, (n, r2, l2, (r, r3, l3, (k, r4, l4, lines)))) =
-    let s = sets_lead n r k [] None due (number + 1 + 1 + 1 + 1) r4 m rest next lines in
-    record {
-      faults = λ fault h. inr (u, r1, l1, inr (n, r2, l2, inr (r, r3, l3, inr (k, r4, l4, s.faults fault h))));
-      values = λ x end after h. (u, r1, l1, (n, r2, l2, (r, r3, l3, (k, r4, l4, s.values x end after h))));
-    }
-
--- a fault among the sets is one whatever is due after the file
-sets_fault : {X : Type 0} (n r k : ℕ) (sets : List (List ℕ)) (last : Option (List ℕ)) (due : Presentation → Format Measure X) (number : ℕ) (bytes : List ℕ) (fault : FirstFault Measure)
-    → IsFirstFault (set_lines n r k sets last (end_line n r)) number bytes fault → IsFirstFault (set_lines n r k sets last (after_sets n r due)) number bytes fault
-unfolding set_lines
-sets_fault n r zero sets last due number bytes fault (inl h) = inl h
-sets_fault n r zero sets last due number bytes fault (inr (u, after, line, h)) = absurd h
-sets_fault n r (suc k) sets last due number bytes fault (inl h) = inl h
-sets_fault n r (suc k) sets last due number bytes fault (inr (x, after, line, h)) = inr (x, after, line, sets_fault n r k (sets ++ x ∷ []) (Some x) due (number + 1) after fault h)
-
--- so is a fault of the file
-pub file_faults : {X : Type 0} (due : Presentation → Format Measure X) (number : ℕ) (bytes : List ℕ) (fault : FirstFault Measure) → IsFirstFault whole_file number bytes fault → IsFirstFault (file due) number bytes fault
-file_faults due number bytes fault (inl h) = inl h
-file_faults due number bytes fault (inr (u, r1, l1, inl h)) = inr (u, r1, l1, inl h)
-file_faults due number bytes fault (inr (u, r1, l1, inr (n, r2, l2, inl h))) = inr (u, r1, l1, inr (n, r2, l2, inl h))
-file_faults due number bytes fault (inr (u, r1, l1, inr (n, r2, l2, inr (r, r3, l3, inl h)))) = inr (u, r1, l1, inr (n, r2, l2, inr (r, r3, l3, inl h)))
-file_faults due number bytes fault (inr (u, r1, l1, inr (n, r2, l2, inr (r, r3, l3, inr (k, r4, l4, h))))) =
-    inr (u, r1, l1, inr (n, r2, l2, inr (r, r3, l3, inr (k, r4, l4, sets_fault n r k [] None due (number + 1 + 1 + 1 + 1) r4 fault h))))
 
 -- a line that names another field
 pub other_field : (number q v : ℕ) (bytes rest : List ℕ) → q < 10 ^ 9 → IsLineOf (keyed {M = Measure} (codes "field ") never) bytes v rest → (v ≡ q → ⊥) → IsLineFault (fixed {M = Measure} (field_text q)) number bytes (grammar number)

@@ -1,19 +1,15 @@
 -- Pairs of a position and its value.
 use Rattle.std.proofs.Common.{◌≡◌, ◌≢◌, ℕ, zero, suc, ◌+◌, ◌≤◌, List, [], ◌∷◌, ◌++◌, length, set, get_or, refl, sym, ap, subst, ◌∙◌, false, cond, eqb, ◌||◌, arith, append_assoc}
 use Rattle.std.specs.Prelude.{◌<◌, ◌^◌, decimal, nat_eq}
-use Rattle.std.specs.Str.Parse.{AllDigits, digits_value}
+use Rattle.std.specs.Str.Parse.{AllDigits}
 use Rattle.std.proofs.lemmas.Bool.Decides.{nat_tests}
-use Rattle.std.proofs.lemmas.Fmt.{digits_decimal, digits_value-decimal}
+use Rattle.std.proofs.lemmas.Fmt.{digits_decimal}
 use Rattle.std.proofs.lemmas.Str.Parse.{digit_from_value}
 use Rattle.mr_set.specs.Elements.{is_element}
 use Rattle.mr_text.specs.Text.{Lacks}
-use Rattle.mr_text.proofs.Decimals.{own, decimal_without}
+use Rattle.mr_text.proofs.Decimals.{own, decimal_without, decimal_one}
 use Rattle.mr_text.proofs.Formats.{same_parts, has_separator, lacks-append}
 use Rattle.mr_log.specs.Lines.{pair_text, pair_texts}
-
--- a word spells one number
-pub decimal_one : (v w : ℕ) → v < 10 ^ 9 → w < 10 ^ 9 → decimal v ≡ decimal w → v ≡ w
-decimal_one v w p q same = sym (digits_value-decimal own v (omega arith)) ∙ ap (digits_value 10) same ∙ digits_value-decimal own w (omega arith)
 
 -- digits are no colon
 digits_without : (ds : List ℕ) → AllDigits 10 ds → is_element ds 58 ≡ false

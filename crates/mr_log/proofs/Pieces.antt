@@ -10,7 +10,7 @@ use Rattle.mr_nogood.specs.declared.row.Cite.{Cite}
 use Rattle.mr_nogood.specs.declared.row.Row.{Row}
 use Rattle.mr_log.specs.Lines.{pair_text, pair_texts, cite_text, step_text}
 use Rattle.mr_log.specs.Log.{log_lines, log_text}
-use Rattle.mr_log.specs.Written.{gap, steps_text, log_head}
+use Rattle.mr_log.specs.Private.Written.{gap, steps_text, log_head}
 use Rattle.mr_log.specs.declared.log.Log.{Log}
 use Rattle.mr_log.proofs.Splitting.{join-append}
 use Rattle.mr_log.proofs.Pairs.{pair_texts-some}

@@ -1,36 +1,25 @@
 -- A line of a log spells one value.
-use Rattle.std.proofs.Common.{◌≡◌, ℕ, zero, suc, ◌-◌, ◌<◌, ◌≤◌, List, [], ◌∷◌, ◌++◌, length, take, get_or, refl, sym, subst, ◌∙◌, inl, inr, arith, append_assoc, Option, Some, None, codes, map}
+use Rattle.std.proofs.Common.{◌≡◌, ℕ, zero, suc, ◌-◌, ◌<◌, ◌≤◌, List, [], ◌∷◌, ◌++◌, length, take, get_or, refl, sym, subst, ◌∙◌, inl, inr, arith, append_assoc, codes, map}
 use Rattle.std.specs.Prelude.{◌^◌, decimal}
 use Rattle.std.specs.List.{join_with_byte}
 use Rattle.std.proofs.lemmas.Bool.{cases_lt}
 use Rattle.std.proofs.lemmas.List.{append_cancel_left, ext_get_or, get_or_past}
 use Rattle.mr_set.specs.Matroid.{Presentation}
-use Rattle.mr_set.specs.declared.TheConstants.{ELEMENTS}
 use Rattle.mr_assign.specs.declared.TheConstants.{VALUES}
-use Rattle.mr_text.specs.Tables.{fixed, keyed}
-use Rattle.mr_text.specs.Format.{Format}
-use Rattle.mr_text.specs.Sharp.{IsSharpTable, IsSharp}
-use Rattle.mr_text.proofs.Decimals.{decimal_without}
-use Rattle.mr_text.proofs.Formats.{same_parts}
-use Rattle.mr_file.specs.File.{set_lines, file}
-use Rattle.mr_file.specs.Reading.{whole_file, end_line}
+use Rattle.mr_text.specs.Tables.{keyed}
+use Rattle.mr_text.specs.Private.Sharp.{IsSharpTable, IsSharp}
+use Rattle.mr_text.proofs.Decimals.{decimal_without, decimal_one}
+use Rattle.mr_text.proofs.Formats.{same_parts, fixed_sharp}
 use Rattle.mr_file.specs.declared.fault.Measure.{Measure}
 use Rattle.mr_file.specs.declared.fault.Measure.TheVariants.{Elements, Rank, Sets, Nonbases}
-use Rattle.mr_file.proofs.SharpFile.{file_sharp}
-use Rattle.mr_file.proofs.Whole.{at_most}
+use Rattle.mr_file.proofs.AfterFile.{file_then_sharp}
 use Rattle.mr_nogood.specs.declared.row.Row.{Row}
 use Rattle.mr_nogood.specs.declared.row.Cite.{Cite}
 use Rattle.mr_nogood.specs.declared.row.Cite.TheVariants.{Nothing}
-use Rattle.mr_log.specs.Lines.{clause_text, cite_text, step_text, IsLogCite, IsStep, IsStepLine}
+use Rattle.mr_log.specs.Lines.{clause_text, cite_text, step_text, IsLogCite, IsLogStep, IsStepLine}
 use Rattle.mr_log.specs.Log.{StepsExceed, step_lines, log_format}
-use Rattle.mr_log.specs.Stages.{from_steps, from_count, field_text}
-use Rattle.mr_log.proofs.Pairs.{decimal_one}
+use Rattle.mr_log.specs.Private.Stages.{from_steps, from_count, field_text}
 use Rattle.mr_log.proofs.StepLines.{same_row, step_one, end_one}
-use Rattle.mr_log.proofs.Outcomes.{after_sets}
-
--- a line of a fixed text
-fixed_sharp : {M : Type 0} (text : List ℕ) → IsSharpTable (fixed {M = M} text)
-fixed_sharp text = record { one_value = λ line a b p q. refl; one_measure = λ a m n p q. absurd p }
 
 -- a number of steps is too large by one measure
 steps_measure : (v : ℕ) (m n : Measure) → StepsExceed v m → StepsExceed v n → m ≡ n
@@ -48,32 +37,6 @@ count_sharp = record {
   one_value = λ line v w p q. decimal_one v w p.0 q.0 (append_cancel_left (codes "steps ") (decimal v) (decimal w) (sym p.1 ∙ q.1));
   one_measure = steps_measure;
 }
-
--- the sets, whatever is due after the file
-sets_sharp : {X : Type 0} (n r k : ℕ) (sets : List (List ℕ)) (last : Option (List ℕ)) (due : Presentation → Format Measure X) → n ≤ 32 → ((m : Presentation) → m.elements ≤ 32 → IsSharp (due m)) → IsSharp (set_lines n r k sets last (end_line n r)) → IsSharp (set_lines n r k sets last (after_sets n r due))
-unfolding set_lines
-sets_sharp n r zero sets last due limit then sharp = (sharp.0, λ line a spelled fits. then (record { elements = n; rank = r; nonbases = sets }) limit)
-sets_sharp n r (suc k) sets last due limit then sharp = (sharp.0, λ line x spelled fits. sets_sharp n r k (sets ++ x ∷ []) (Some x) due limit then (sharp.1 line x spelled fits))
-
--- the file, whatever is due after it
-file_then_sharp : {X : Type 0} (due : Presentation → Format Measure X) → ((m : Presentation) → m.elements ≤ 32 → IsSharp (due m)) → IsSharp (file due)
-file_then_sharp due then = by_file file_sharp
-  where
-    by_file : IsSharp whole_file → IsSharp (file due)
-    by_file s = (
-      s.0,
-      λ l1 u s1 f1. let a = s.1 l1 u s1 f1 in (
-        a.0,
-        λ l2 n s2 f2. let b = a.1 l2 n s2 f2 in (
-          b.0,
-          λ l3 r s3 f3. let c = b.1 l3 r s3 f3 in (
-            c.0,
-            λ l4 k s4 f4.
-                sets_sharp n r k [] None due (at_most ELEMENTS n (f2 Elements)) then (c.1 l4 k s4 f4),
-          ),
-        ),
-      ),
-    )
 
 -- the text of a step from its position on
 step_text-front : (q : ℕ) (row : Row) → (rest : List ℕ) × (step_text q row ≡ codes "at " ++ (decimal row.at ++ 32 ∷ rest))
@@ -104,7 +67,7 @@ bare_step m q number line a b few p t =
     (ext_get_or Nothing a.cites b.cites (p.step.count ∙ sym t.step.count) (λ k lt. p.step.others k (omega arith) ∙ sym (t.step.others k (omega arith))))
 
 -- a field of more elements has no steps
-no_steps : (m : Presentation) (q number : ℕ) (row : Row) → 9 < q → IsStep m q number row → ⊥
+no_steps : (m : Presentation) (q number : ℕ) (row : Row) → 9 < q → IsLogStep m q number row → ⊥
 no_steps m q number row many is = subst (IsLogCite m) (past row.cites is.count) (is.cites 8 (omega arith))
   where
     past : (cites : List Cite) → length cites ≡ VALUES → get_or cites 8 Nothing ≡ Nothing

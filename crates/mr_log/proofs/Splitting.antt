@@ -6,7 +6,7 @@ use Rattle.std.proofs.lemmas.Bool.Decides.{nat_tests}
 use Rattle.std.proofs.lemmas.List.Splits.{slice_split-cons_no, join_with_byte-slice_split, length-slice_split}
 use Rattle.mr_set.specs.Elements.{is_element}
 use Rattle.mr_text.specs.Text.{Lacks}
-use Rattle.mr_text.proofs.Formats.{lacks-append}
+use Rattle.mr_text.proofs.Formats.{lacks-append, right}
 use Rattle.mr_log.specs.Words.{words_of}
 
 -- no byte of a word is c
@@ -17,11 +17,6 @@ AllLack c ws = AllByRecursion (Lacks c) ws
 left : (s t : Bool) → (s || t) ≡ false → s ≡ false
 left true t h = cc
 left false t h = refl
-
--- nor does the second
-right : (s t : Bool) → (s || t) ≡ false → t ≡ false
-right true t h = cc
-right false t h = h
 
 -- the test for a space, by either side
 turned : (b : ℕ) → nat_eq 32 b ≡ false → eqb b 32 ≡ false

@@ -6,10 +6,12 @@ use Rattle.mr_set.specs.Matroid.{Presentation}
 use Rattle.mr_assign.specs.declared.TheConstants.{POSITIONS}
 use Rattle.mr_nogood.specs.declared.row.Cite.{Cite}
 use Rattle.mr_nogood.specs.declared.row.Row.{Row}
+use Rattle.mr_text.proofs.Decimals.{decimal_one}
 use Rattle.mr_log.specs.Lines.{pair_text, pair_texts, IsLogCite, IsStepLine, IsEndLine}
-use Rattle.mr_log.specs.Words.{IsClauseFrom, IsCites, words_of, or_dash, cite_words, clause_words, position_words, cites_words}
+use Rattle.mr_log.specs.Words.{words_of}
+use Rattle.mr_log.specs.Private.Words.{IsClauseFrom, IsCites, or_dash, cite_words, clause_words, position_words, cites_words}
 use Rattle.mr_log.proofs.Splitting.{words_of-join, join-words_of}
-use Rattle.mr_log.proofs.Pairs.{decimal_one, no_pair, Least, vacant, valued, least}
+use Rattle.mr_log.proofs.Pairs.{no_pair, Least, vacant, valued, least}
 use Rattle.mr_log.proofs.CiteLists.{step_cites_one, cite_one}
 use Rattle.mr_log.proofs.Steps.{space_apart, cite_lacks, end_join, row_words, line_of_words, position_one, pairs_one, step_clause, step_cites, values_below}
 

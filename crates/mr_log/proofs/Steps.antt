@@ -7,14 +7,15 @@ use Rattle.mr_set.specs.Matroid.{Presentation}
 use Rattle.mr_set.proofs.Sorted.{all_head, all_tail}
 use Rattle.mr_assign.specs.declared.TheConstants.{POSITIONS}
 use Rattle.mr_text.specs.Text.{Lacks}
-use Rattle.mr_text.proofs.Decimals.{decimal_without}
+use Rattle.mr_text.proofs.Decimals.{decimal_without, decimal_one}
 use Rattle.mr_nogood.specs.declared.row.Cite.{Cite}
 use Rattle.mr_nogood.specs.declared.row.Cite.TheVariants.{Nothing, Test, Slot}
 use Rattle.mr_nogood.specs.declared.row.Row.{Row}
-use Rattle.mr_log.specs.Lines.{pair_text, pair_texts, words_text, clause_text, cite_text, step_text, IsLogCite, IsStep, IsStepLine}
-use Rattle.mr_log.specs.Words.{IsClauseFrom, IsCites, words_of, or_dash, cite_words, clause_words, position_words, cites_words, step_words}
+use Rattle.mr_log.specs.Lines.{pair_text, pair_texts, words_text, clause_text, cite_text, step_text, IsLogCite, IsLogStep, IsStepLine}
+use Rattle.mr_log.specs.Words.{words_of}
+use Rattle.mr_log.specs.Private.Words.{IsClauseFrom, IsCites, or_dash, cite_words, clause_words, position_words, cites_words, step_words}
 use Rattle.mr_log.proofs.Splitting.{AllLack, words_of-join, join-words_of, join-append, all_lack-append}
-use Rattle.mr_log.proofs.Pairs.{decimal_one, pair_one, pair_lacks, no_pair, pair_texts-some, Least, vacant, valued, least}
+use Rattle.mr_log.proofs.Pairs.{pair_one, pair_lacks, no_pair, pair_texts-some, Least, vacant, valued, least}
 use Rattle.mr_log.proofs.CiteLists.{AreCites, list_words, front, front_cites}
 
 -- two groups of words with a space between them
@@ -147,11 +148,11 @@ clause_lacks c [] apart all = (apart.dash, tt)
 clause_lacks c (t ∷ ts) apart all = all
 
 -- the clause of a step
-pub step_clause : (m : Presentation) (q number : ℕ) (row : Row) → IsStep m q number row → IsClauseFrom q 0 row.clause
+pub step_clause : (m : Presentation) (q number : ℕ) (row : Row) → IsLogStep m q number row → IsClauseFrom q 0 row.clause
 step_clause m q number row is = record { assign = is.clause; values = is.values; none = λ p lt. absurd (omega arith) }
 
 -- the cites of a step
-pub step_cites : (m : Presentation) (q number : ℕ) (row : Row) → IsStep m q number row → IsCites m q row.cites
+pub step_cites : (m : Presentation) (q number : ℕ) (row : Row) → IsLogStep m q number row → IsCites m q row.cites
 step_cites m q number row is = record { count = is.count; cites = is.cites; others = is.others }
 
 -- small values
@@ -159,7 +160,7 @@ pub values_below : (q : ℕ) (a : List ℕ) → q ≤ 9 → All (λ v. v < q) a 
 values_below q a nine small k d lt = let h = small k d lt in omega arith
 
 -- the words of a step hold no such byte
-pub step_lacks : (m : Presentation) (c q number : ℕ) (row : Row) → IsApart c → m.elements ≤ 32 → q ≤ 9 → IsStep m q number row → AllLack c (step_words q row)
+pub step_lacks : (m : Presentation) (c q number : ℕ) (row : Row) → IsApart c → m.elements ≤ 32 → q ≤ 9 → IsLogStep m q number row → AllLack c (step_words q row)
 step_lacks m c q number row apart limit nine is =
     let place = is.at in
     let size = is.clause.positions in (
@@ -184,7 +185,7 @@ row_words m q number line row limit low nine is =
     ∙ words_of-join (codes "at") (decimal row.at ∷ codes "if" ∷ (clause_words row.clause ++ cites_words q row.cites)) (step_lacks m 32 q number row space_apart limit nine is.step)
 
 -- a line with the words of a step is that step's
-pub line_of_words : (m : Presentation) (q number : ℕ) (line : List ℕ) (row : Row) → 2 ≤ q → IsStep m q number row → words_of line ≡ step_words q row → IsStepLine m q number line row
+pub line_of_words : (m : Presentation) (q number : ℕ) (line : List ℕ) (row : Row) → 2 ≤ q → IsLogStep m q number row → words_of line ≡ step_words q row → IsStepLine m q number line row
 line_of_words m q number line row low is words = record { step = is; text = sym (join-words_of line) ∙ ap (join_with_byte 32) words ∙ step_join q row low (let size = is.count in omega arith) }
 
 -- words that begin with a position

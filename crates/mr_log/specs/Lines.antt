@@ -50,7 +50,7 @@ IsLogCite m (Slot s) = s < 10 ^ 9
 
 -- The step with this number. Its positions are numbers below `POSITIONS`, its values elements, and it has a cite for each
 -- element but 0.
-pub record IsStep (m : Presentation) (q number : ℕ) (row : Row) : Type 0 where
+pub record IsLogStep (m : Presentation) (q number : ℕ) (row : Row) : Type 0 where
   pub rank : row.rank ≡ number
   pub at : row.at < POSITIONS
   pub clause : IsAssign row.clause
@@ -61,7 +61,7 @@ pub record IsStep (m : Presentation) (q number : ℕ) (row : Row) : Type 0 where
 
 -- the line is that of the step with this number
 pub record IsStepLine (m : Presentation) (q number : ℕ) (line : List ℕ) (row : Row) : Type 0 where
-  pub step : IsStep m q number row
+  pub step : IsLogStep m q number row
   pub text : line ≡ step_text q row
 
 -- a line of a step

@@ -10,7 +10,7 @@ use Rattle.mr_file.specs.File.{file, file_lines}
 use Rattle.mr_file.specs.declared.fault.Measure.{Measure}
 use Rattle.mr_file.specs.declared.fault.Measure.TheVariants.{Elements, Rank, Sets, Nonbases}
 use Rattle.mr_nogood.specs.declared.row.Row.{Row}
-use Rattle.mr_log.specs.Lines.{cite_text, step_text, IsLogCite, IsStep, step_table, end_table}
+use Rattle.mr_log.specs.Lines.{cite_text, step_text, IsLogCite, IsLogStep, step_table, end_table}
 use Rattle.mr_log.specs.declared.TheConstants.{STEPS}
 use Rattle.mr_log.specs.declared.log.Log.{Log}
 
@@ -54,7 +54,7 @@ pub record IsLog (l : Log) : Type 0 where
   pub limits : IsWithinLimits l.matroid
   pub field : IsOrder l.q
   pub count : length l.steps ≤ STEPS
-  pub steps : (j : ℕ) (row : Row) → slice_get l.steps j ≡ Some row → IsStep l.matroid l.q j row
+  pub steps : (j : ℕ) (row : Row) → slice_get l.steps j ≡ Some row → IsLogStep l.matroid l.q j row
   pub last : IsLogCite l.matroid l.last
 
 -- the bytes are those of the log l over the field with q elements

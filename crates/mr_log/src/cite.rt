@@ -1,9 +1,10 @@
 ghost use Rattle.std.specs.Prelude.{◌≡◌, ◌↔◌, ◌+◌, ◌<◌, ◌≤◌, ◌^◌, ◌∷◌, [], ℕ, map, decimal, IsTrue, option_map};
+ghost use Rattle.mr_set.specs.declared.TheConstants.{ELEMENTS};
 ghost use Rattle.mr_nogood.specs.declared.row.Cite.TheVariants.{Test, Slot};
 ghost use Rattle.mr_set.specs.Subsets.{IsSetOf};
 ghost use Rattle.mr_file.specs.Reading.{listing};
 ghost use Rattle.mr_log.specs.Lines.{IsLogCite};
-ghost use Rattle.mr_log.specs.Words.{Reads, IsSetFrom, IsCites, set_words, cite_words, cites_words};
+ghost use Rattle.mr_log.specs.Private.Words.{Reads, IsSetFrom, IsCites, set_words, cite_words, cites_words};
 
 use crate::words::WordsLeft;
 use mr_file::Listed;
@@ -29,7 +30,7 @@ fn is_within(e: u32, low: u32, end: u32) -> bool
 
 // A set of `count` elements from `low` on.
 fn read_elements(words: &mut WordsLeft, low: u32, elements: u32, count: u32) -> Option<Set>
-    requires { elements ≤ 32 }
+    requires { elements ≤ ELEMENTS }
     ensures { Reads (IsSetFrom low elements count) (map decimal) result words.old words.new }
 {
     if count == 0 {
@@ -52,7 +53,7 @@ fn read_elements(words: &mut WordsLeft, low: u32, elements: u32, count: u32) -> 
 
 // A set of `rank` elements.
 fn read_set(words: &mut WordsLeft, elements: u32, rank: u32) -> Option<Set>
-    requires { elements ≤ 32 }
+    requires { elements ≤ ELEMENTS }
     ensures { Reads (IsSetOf elements rank) set_words result words.old words.new }
 {
     if rank > 0 {
@@ -67,7 +68,7 @@ fn read_set(words: &mut WordsLeft, elements: u32, rank: u32) -> Option<Set>
 
 /// The next cite.
 pub fn read_cite(words: &mut WordsLeft, listed: &Listed) -> Option<Cite>
-    requires { listed.now.elements ≤ 32 }
+    requires { listed.now.elements ≤ ELEMENTS }
     ensures { Reads (IsLogCite (listing listed.now)) cite_words result words.old words.new }
 {
     match words.next() {
@@ -104,7 +105,7 @@ fn slot_of(number: Option<u32>) -> Option<Cite>
 
 /// A cite for each value of the field with `q` elements, and `Nothing` for the others.
 pub fn read_cites(words: &mut WordsLeft, listed: &Listed, q: u8) -> Option<[Cite; 8]>
-    requires elements { listed.now.elements ≤ 32 }
+    requires elements { listed.now.elements ≤ ELEMENTS }
     requires field { (2 ≤ q) × (q ≤ 9) }
     ensures { Reads (IsCites (listing listed.now) q) (cites_words q) result words.old words.new }
 {

@@ -2,7 +2,7 @@ ghost use Rattle.std.specs.Prelude.{◌≡◌, ◌≢◌, ◌↔◌, ◌<◌, �
 ghost use Rattle.mr_assign.specs.Assign.{no_values};
 ghost use Rattle.mr_assign.specs.declared.TheConstants.{POSITIONS};
 ghost use Rattle.mr_log.specs.Lines.{pair_text};
-ghost use Rattle.mr_log.specs.Words.{Reads, IsClauseFrom, pair_words, clause_words};
+ghost use Rattle.mr_log.specs.Private.Words.{Reads, IsClauseFrom, pair_words, clause_words};
 
 use crate::words::WordsLeft;
 use mr_assign::{Assign, POSITIONS};

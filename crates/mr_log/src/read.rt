@@ -1,6 +1,7 @@
 ghost use Rattle.std.specs.Prelude.{◌≡◌, ◌+◌, ◌<◌, ◌≤◌, ◌^◌, [], ℕ, length, MatchResult, IfOk, IfErr};
 ghost use Rattle.mr_field.specs.Gf.{order};
 ghost use Rattle.mr_field.specs.Order.{IsOrder};
+ghost use Rattle.mr_set.specs.declared.TheConstants.{ELEMENTS};
 ghost use Rattle.mr_set.specs.Matroid.{IsMatroid, IsPresentation};
 ghost use Rattle.mr_matroid.specs.Exchange.{IsWithinLimits};
 ghost use Rattle.mr_text.specs.Format.{IsLineOf, IsLineFault, StandsFor, IsFirstFault, IsTextOf, IsFirstFaultOf};
@@ -9,7 +10,7 @@ ghost use Rattle.mr_file.specs.Reading.{listing};
 ghost use Rattle.mr_file.specs.declared.fault.Measure.{Measure};
 ghost use Rattle.mr_log.specs.Log.{log_format, IsLogOf};
 ghost use Rattle.mr_log.specs.Reading.{IsLogRefusal};
-ghost use Rattle.mr_log.specs.Stages.{NamesBad, field_text, found_log, from_field, from_file, from_count, from_steps, log_fault};
+ghost use Rattle.mr_log.specs.Private.Stages.{NamesBad, field_text, found_log, from_field, from_file, from_count, from_steps, log_fault};
 ghost use Rattle.mr_log.specs.declared.log.Log.{Log};
 ghost use Rattle.mr_log.specs.declared.fault.LogFault.{LogFault};
 
@@ -163,7 +164,7 @@ fn read_count<'a>(
 ) -> Result<(Found, &'a [u8], u32), LogFault>
     requires numbers { line_number + length bytes.now < 2 ^ 32 }
     requires field { IsOrder q }
-    requires elements { listed.elements ≤ 32 }
+    requires elements { listed.elements ≤ ELEMENTS }
     ensures { MatchResult result (λ x. StandsFor (from_count q (listing listed)) line_number bytes.now (found_log q x.0) x.1.now x.2) (NamesBad (IsFirstFault (from_count q (listing listed)) line_number bytes.now)) }
 {
     match keyed_line(bytes, line_number, b"steps ") {
@@ -191,7 +192,7 @@ fn read_steps<'a>(
 ) -> Result<(Found, &'a [u8], u32), LogFault>
     requires numbers { line_number + length bytes.now < 2 ^ 32 }
     requires field { IsOrder q }
-    requires elements { listed.elements ≤ 32 }
+    requires elements { listed.elements ≤ ELEMENTS }
     ensures { MatchResult result (λ x. StandsFor (from_steps q (listing listed) count []) line_number bytes.now (found_log q x.0) x.1.now x.2) (NamesBad (IsFirstFault (from_steps q (listing listed) count []) line_number bytes.now)) }
 {
     let mut steps = RowList::new(alloc);

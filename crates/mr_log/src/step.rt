@@ -1,10 +1,11 @@
 ghost use Rattle.std.specs.Prelude.{◌≡◌, ◌<◌, ◌≤◌, MatchOption, MatchResult};
+ghost use Rattle.mr_set.specs.declared.TheConstants.{ELEMENTS};
 ghost use Rattle.mr_assign.specs.declared.TheConstants.{POSITIONS};
 ghost use Rattle.mr_text.specs.Format.{IsLineOf, IsLineFault};
 ghost use Rattle.mr_file.specs.Reading.{listing};
 ghost use Rattle.mr_log.specs.Lines.{IsStepLine, IsEndLine, step_table, end_table};
-ghost use Rattle.mr_log.specs.Words.{Reads, position_words};
-ghost use Rattle.mr_log.specs.Stages.{NamesLine};
+ghost use Rattle.mr_log.specs.Private.Words.{Reads, position_words};
+ghost use Rattle.mr_log.specs.Private.Stages.{NamesLine};
 ghost use Rattle.mr_nogood.specs.declared.row.Row.{Row};
 
 use crate::cite::{read_cite, read_cites, read_number};
@@ -41,7 +42,7 @@ fn read_position(words: &mut WordsLeft) -> Option<u8>
 
 // The step with this number that the line spells.
 fn read_step(line: &[u8], listed: &Listed, q: u8, number: u32) -> Option<Row>
-    requires elements { listed.now.elements ≤ 32 }
+    requires elements { listed.now.elements ≤ ELEMENTS }
     requires field { (2 ≤ q) × (q ≤ 9) }
     ensures { MatchOption result ((row : Row) → ¬ (IsStepLine (listing listed.now) q number line.now row)) (IsStepLine (listing listed.now) q number line.now) }
 {
@@ -77,7 +78,7 @@ pub fn step_line<'a>(
     q: u8,
     number: u32,
 ) -> Result<(Row, &'a [u8]), LogFault>
-    requires elements { listed.now.elements ≤ 32 }
+    requires elements { listed.now.elements ≤ ELEMENTS }
     requires field { (2 ≤ q) × (q ≤ 9) }
     ensures { MatchResult result (λ x. IsLineOf (step_table (listing listed.now) q number) bytes.now x.0 x.1.now) (NamesLine (IsLineFault (step_table (listing listed.now) q number) line_number bytes.now)) }
 {
@@ -98,7 +99,7 @@ pub fn step_line<'a>(
 
 // The cite of the end that the line spells.
 fn read_end(line: &[u8], listed: &Listed) -> Option<Cite>
-    requires { listed.now.elements ≤ 32 }
+    requires { listed.now.elements ≤ ELEMENTS }
     ensures { MatchOption result ((last : Cite) → ¬ (IsEndLine (listing listed.now) line.now last)) (IsEndLine (listing listed.now) line.now) }
 {
     let mut words = WordsLeft::of(line);
@@ -118,7 +119,7 @@ pub fn end_line<'a>(
     line_number: u32,
     listed: &Listed,
 ) -> Result<(Cite, &'a [u8]), LogFault>
-    requires { listed.now.elements ≤ 32 }
+    requires { listed.now.elements ≤ ELEMENTS }
     ensures { MatchResult result (λ x. IsLineOf (end_table (listing listed.now)) bytes.now x.0 x.1.now) (NamesLine (IsLineFault (end_table (listing listed.now)) line_number bytes.now)) }
 {
     match split_once(bytes, b'\n') {

@@ -4,7 +4,7 @@ ghost use Rattle.mr_assign.specs.Assign.{IsAssign};
 ghost use Rattle.mr_log.specs.Lines.{pair_text, clause_text, cite_text, step_text};
 ghost use Rattle.mr_log.specs.Log.{log_text, IsLog};
 ghost use Rattle.mr_log.specs.declared.TheConstants.{STEPS};
-ghost use Rattle.mr_log.specs.Written.{gap, log_head, steps_text};
+ghost use Rattle.mr_log.specs.Private.Written.{gap, log_head, steps_text};
 ghost use Rattle.mr_nogood.specs.declared.row.Row.{Row};
 
 use crate::log::Log;

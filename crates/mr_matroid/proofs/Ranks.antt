@@ -1,6 +1,6 @@
 -- The rank of a set by the elements that it shares with bases.
 use Rattle.std.proofs.Common.{◌≡◌, ℕ, ◌≤◌, List, [], ◌∷◌, length, refl, sym, ap, subst, ◌∙◌, arith, inl, inr, ◌⊎◌, Bool, true, false, ◌&&◌, ◌||◌}
-use Rattle.std.specs.Prelude.{◌<◌, Contains, nat_eq}
+use Rattle.std.specs.Prelude.{◌<◌, Contains, max, nat_eq}
 use Rattle.std.proofs.lemmas.Bool.{cases_lt, cases_eq}
 use Rattle.std.proofs.lemmas.Bool.Decides.{nat_tests}
 use Rattle.std.specs.List.Sorted.{IsStrictlySortedBy}
@@ -12,40 +12,19 @@ use Rattle.mr_set.specs.Subsets.{IsSetOf}
 use Rattle.mr_set.specs.Matroid.{Presentation, IsBasis, IsMatroid, IsRank}
 use Rattle.mr_set.proofs.Members.{IsBelowAll, is_element-filter, is_element-from_Contains, Contains-from_element, not_element_below, itself, above_first}
 use Rattle.mr_set.proofs.Sorted.{sorted_parts}
-use Rattle.mr_matroid.specs.Shared.{IsBestOf, IsMostShared}
+use Rattle.mr_matroid.specs.Private.Shared.{IsMostShared}
 use Rattle.mr_matroid.proofs.Failures.{element_small}
-use Rattle.mr_matroid.proofs.Walk.{Seen}
-
--- a basis shares no more than so many elements with x
-abbrev pub SharesAtMost : Presentation → List ℕ → ℕ → List ℕ → Type 0
-SharesAtMost m x most z = IsBasis m z → length (meet x z) ≤ most
 
 -- some basis shares so many with x, or the number is 0
 abbrev pub Reached : Presentation → List ℕ → ℕ → Type 0
 Reached m x most = (most ≡ 0) ⊎ ((b : List ℕ) × IsBasis m b × (length (meet x b) ≡ most))
 
--- a set that is no basis changes nothing
-pub best_kept : (m : Presentation) (x b : List ℕ) (most : ℕ) → ¬ (IsBasis m b) → IsBestOf m x b most most
-best_kept m x b most none = record { keeps = omega arith; covers = λ basis. absurd (none basis); reached = inl refl }
-
--- a basis that shares more
-pub best_more : (m : Presentation) (x b : List ℕ) (most count : ℕ) → IsBasis m b → count ≡ length (meet x b) → most < count → IsBestOf m x b most count
-best_more m x b most count basis is more = record { keeps = omega arith; covers = λ _. omega arith; reached = inr (basis, sym is) }
-
--- a basis that shares no more
-pub best_same : (m : Presentation) (x b : List ℕ) (most count : ℕ) → count ≡ length (meet x b) → count ≤ most → IsBestOf m x b most most
-best_same m x b most count is less = record { keeps = omega arith; covers = λ _. omega arith; reached = inl refl }
-
--- the new number is reached
-pub reached_best : (m : Presentation) (x b : List ℕ) (old new : ℕ) → IsBestOf m x b old new → Reached m x old → Reached m x new
-reached_best m x b old new best before = elim best.reached [
-  | inl same ↦ subst (Reached m x) (sym same) before
-  | inr found ↦ inr (b, found.0, found.1)
+-- one basis more
+pub reached_more : (m : Presentation) (x b : List ℕ) (most : ℕ) → IsBasis m b → Reached m x most → Reached m x (max (length (meet x b)) most)
+reached_more m x b most basis before = elim (cases_lt most (length (meet x b))) [
+  | inl more ↦ inr (b, basis, (let e : length (meet x b) ≡ max (length (meet x b)) most = omega arith in e))
+  | inr less ↦ subst (Reached m x) (let e : most ≡ max (length (meet x b)) most = omega arith in e) before
 ]
-
--- the bases before share no more than the new number
-pub shares_best : (m : Presentation) (x b : List ℕ) (n r old new : ℕ) → IsBestOf m x b old new → Seen n r b (SharesAtMost m x old) → Seen n r b (SharesAtMost m x new)
-shares_best m x b n r old new best seen z is before basis = let h = seen z is before basis in let k = best.keeps in omega arith
 
 -- a set is no smaller than its subsets
 pub subset_length : (y z : List ℕ) → IsStrictlySortedBy nat_cmp y → IsStrictlySortedBy nat_cmp z → ((e : ℕ) → is_element y e ≡ true → is_element z e ≡ true) → length y ≤ length z

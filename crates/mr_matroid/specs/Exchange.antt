@@ -1,6 +1,5 @@
 -- The first exchange that fails.
 use Rattle.std.specs.Prelude.{ℕ, ◌≤◌, List, Contains}
-use Rattle.mr_set.specs.Elements.{with_element, without_element}
 use Rattle.mr_set.specs.Subsets.{IsBefore, choose}
 use Rattle.mr_set.specs.Matroid.{Presentation, IsBasis, FailsExchange}
 use Rattle.mr_set.specs.declared.TheConstants.{ELEMENTS, SETS}
@@ -14,26 +13,11 @@ pub record IsWithinLimits (m : Presentation) : Type 0 where
 abbrev pub HasNoBasis : Presentation → Type 0
 HasNoBasis m = (x : List ℕ) → ¬ (IsBasis m x)
 
--- some element of b2 alone can take the place of x in b1
-abbrev pub CanReplace : Presentation → List ℕ → List ℕ → ℕ → Type 0
-CanReplace m b1 b2 x = (y : ℕ) × Contains b2 y × (¬ (Contains b1 y)) × IsBasis m (with_element y (without_element x b1))
-
 -- the exchange fails, and none does with an earlier b1, or with this b1 and an earlier b2, or with these and a lesser x
 pub record IsFirstFailure (m : Presentation) (b1 b2 : List ℕ) (x : ℕ) : Type 0 where
   pub fails : FailsExchange m b1 b2 x
   pub first : (c1 c2 : List ℕ) (y : ℕ) → FailsExchange m c1 c2 y → ¬ (IsBefore c1 b1)
   pub second : (c2 : List ℕ) (y : ℕ) → FailsExchange m b1 c2 y → ¬ (IsBefore c2 b2)
-  pub element : (y : ℕ) → FailsExchange m b1 b2 y → x ≤ y
-
--- the exchange fails, and none does with this b1 and an earlier b2, or with these and a lesser x
-pub record IsFirstSecond (m : Presentation) (b1 b2 : List ℕ) (x : ℕ) : Type 0 where
-  pub fails : FailsExchange m b1 b2 x
-  pub second : (c2 : List ℕ) (y : ℕ) → FailsExchange m b1 c2 y → ¬ (IsBefore c2 b2)
-  pub element : (y : ℕ) → FailsExchange m b1 b2 y → x ≤ y
-
--- the exchange fails, and none does with these bases and a lesser x
-pub record IsFirstElement (m : Presentation) (b1 b2 : List ℕ) (x : ℕ) : Type 0 where
-  pub fails : FailsExchange m b1 b2 x
   pub element : (y : ℕ) → FailsExchange m b1 b2 y → x ≤ y
 
 -- no basis has the element

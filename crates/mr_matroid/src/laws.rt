@@ -1,4 +1,4 @@
-ghost use Rattle.mr_matroid.specs.Laws.{OneFirstFailure, OneVerdict};
+ghost use Rattle.mr_matroid.specs.Laws.{OneFirstFailure, OneMatroidVerdict, ExchangeFailsWhereNothingFits};
 
 /// One exchange is the first that fails.
 pub fn one_first_failure()
@@ -7,5 +7,10 @@ pub fn one_first_failure()
 
 /// Of a matroid, no basis and a failing exchange one answer is due.
 pub fn one_verdict()
-    ensures { OneVerdict }
+    ensures { OneMatroidVerdict }
+{}
+
+/// An exchange fails exactly where the second basis has none of the elements that fit.
+pub fn exchange_fails_where_nothing_fits()
+    ensures { ExchangeFailsWhereNothingFits }
 {}

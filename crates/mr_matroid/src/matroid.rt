@@ -3,10 +3,12 @@ ghost use Rattle.mr_set.specs.Elements.{IsSet};
 ghost use Rattle.mr_set.specs.Subsets.{choose};
 ghost use Rattle.mr_set.specs.Matroid.{IsPresentation, IsMatroid, IsBasis, IsFirstBasis, IsRank};
 ghost use Rattle.mr_matroid.specs.Exchange.{IsWithinLimits, IsLoop, IsColoop};
-ghost use Rattle.mr_matroid.specs.Answers.{IsVerdict};
+ghost use Rattle.mr_matroid.specs.Answers.{IsMatroidVerdict};
 
-use crate::family::Family;
+use crate::bases;
+use crate::exchange::first_failure;
 use crate::fault::MatroidFault;
+use crate::table::SetTable;
 use mr_set::Set;
 use std::alloc::{AllocError, Global};
 use std::marker::Model;
@@ -14,19 +16,18 @@ use std::marker::Model;
 /// A matroid. Contracts see its number of elements, its rank and its nonbases.
 #[derive(Drop)]
 pub struct Matroid {
-    family: Family,
+    table: SetTable,
 }
 
 impl Model for Matroid {
     ghost use Rattle.mr_set.specs.Matroid.{Presentation, IsMatroid};
     ghost use Rattle.mr_matroid.specs.Exchange.{IsWithinLimits};
-    ghost use Rattle.mr_matroid.specs.Family.{presentation};
 
     ghost Value = { Presentation };
 
-    ghost view = { λ m. presentation m.family };
+    ghost view = { λ m. m.table };
 
-    ghost invariant = { λ m. IsMatroid (presentation m.family) × IsWithinLimits (presentation m.family) };
+    ghost invariant = { λ m. IsMatroid m.table × IsWithinLimits m.table };
 }
 
 impl Matroid {
@@ -39,50 +40,46 @@ impl Matroid {
     ) -> Result<Matroid, MatroidFault>
         requires limits { IsWithinLimits (record { elements = n; rank = r; nonbases = sets.now }) }
         requires sets { IsPresentation (record { elements = n; rank = r; nonbases = sets.now }) }
-        ensures { IsVerdict (record { elements = n; rank = r; nonbases = sets.now }) result }
+        ensures { IsMatroidVerdict (record { elements = n; rank = r; nonbases = sets.now }) result }
     {
-        match Vec::from_slice(alloc, sets) {
+        match SetTable::new(alloc, n, r, sets) {
             Err(_) => Err(MatroidFault::Memory),
-            Ok(nonbases) => {
-                let family = Family {
-                    elements: n,
-                    rank: r,
-                    nonbases,
-                };
-                match family.first_basis() {
-                    None => Err(MatroidFault::NoBasis),
-                    Some(_) => match family.first_failure() {
-                        Some(found) => Err(MatroidFault::Exchange {
-                            b1: found.0,
-                            b2: found.1,
-                            x: found.2,
-                        }),
-                        None => Ok(Matroid { family }),
-                    },
-                }
-            }
+            Ok(table) => match bases::first_basis(&table) {
+                None => Err(MatroidFault::NoBasis),
+                Some(_) => match first_failure(&table) {
+                    Some(found) => Err(MatroidFault::Exchange {
+                        b1: found.0,
+                        b2: found.1,
+                        x: found.2,
+                    }),
+                    None => Ok(Matroid { table }),
+                },
+            },
         }
     }
 
+    /// The number of elements, at most `ELEMENTS`.
     pub fn elements(&self) -> u32
         ensures value { result ≡ self.now.elements }
         ensures matroid { IsMatroid self.now }
         ensures limits { IsWithinLimits self.now }
     {
-        self.family.elements
+        self.table.elements()
     }
 
+    /// The size of each basis.
     pub fn rank(&self) -> u32
         ensures { result ≡ self.now.rank }
     {
-        self.family.rank
+        self.table.rank()
     }
 
+    /// How many sets of the size of a basis are none, at most `SETS`.
     pub fn nonbasis_count(&self) -> u32
         ensures value { result ≡ length self.now.nonbases }
         ensures limit { result ≤ choose self.now.elements self.now.rank }
     {
-        let sets = self.family.nonbases.as_slice();
+        let sets = self.table.sets();
         sets.len() as u32
     }
 
@@ -90,24 +87,16 @@ impl Matroid {
     pub fn nonbases(&self) -> &[Set]
         ensures { result.now ≡ self.now.nonbases }
     {
-        &self.family.nonbases
+        self.table.sets()
     }
 
     /// A new matroid with the same elements and nonbases.
     pub fn copy(&self, alloc: Global) -> Result<Matroid, AllocError>
         ensures { IfOk result (λ m. m ≡ self.now) }
     {
-        let family = &self.family;
-        match Vec::from_slice(alloc, &family.nonbases) {
+        match self.table.copy(alloc) {
             Err(e) => Err(e),
-            Ok(nonbases) => {
-                let family = Family {
-                    elements: family.elements,
-                    rank: family.rank,
-                    nonbases,
-                };
-                Ok(Matroid { family })
-            }
+            Ok(table) => Ok(Matroid { table }),
         }
     }
 
@@ -116,28 +105,34 @@ impl Matroid {
         requires { IsSet self.now.elements x }
         ensures { IsTrue result ↔ IsBasis self.now x }
     {
-        self.family.is_basis(x)
+        if x.len() == self.table.rank() {
+            !self.table.listed(x)
+        } else {
+            false
+        }
     }
 
+    /// Whether no basis has the element.
     pub fn is_loop(&self, e: u32) -> bool
         requires { e < self.now.elements }
         ensures { IsTrue result ↔ IsLoop self.now e }
     {
-        self.family.is_loop(e)
+        bases::is_loop(&self.table, e)
     }
 
+    /// Whether each basis has the element.
     pub fn is_coloop(&self, e: u32) -> bool
         requires { e < self.now.elements }
         ensures { IsTrue result ↔ IsColoop self.now e }
     {
-        self.family.is_coloop(e)
+        bases::is_coloop(&self.table, e)
     }
 
     /// The least basis.
     pub fn first_basis(&self) -> Set
         ensures { IsFirstBasis self.now result }
     {
-        match self.family.first_basis() {
+        match bases::first_basis(&self.table) {
             Some(b) => b,
             None => unreachable!(),
         }
@@ -148,6 +143,6 @@ impl Matroid {
         requires { IsSet self.now.elements x }
         ensures { IsRank self.now x result }
     {
-        self.family.most_shared(x)
+        bases::most_shared(&self.table, x)
     }
 }

@@ -1,49 +1,10 @@
-ghost use Rattle.std.specs.Prelude.{◌≡◌, ◌≤◌, IsTrue, IfOk, All};
-ghost use Rattle.std.specs.List.{AllByRecursion};
-ghost use Rattle.std.specs.List.Sorted.{IsStrictlySortedBy};
+ghost use Rattle.std.specs.Prelude.{IfOk};
 ghost use Rattle.mr_set.specs.Elements.{IsSet};
-ghost use Rattle.mr_set.specs.Subsets.{IsSetOf, IsBefore, list_cmp};
 
 use super::*;
-use mr_set::{Set, binomial, elements, is_before};
+use mr_set::{Set, are_sets_of, binomial, is_set_of};
 use std::alloc::Global;
 use std::test::Fail;
-
-// Whether the set has r elements, all below n.
-fn is_set_of(n: u32, r: u32, x: Set) -> bool
-    ensures { IsTrue result → IsSetOf n r x }
-{
-    let _mask = x.mask();
-    x.len() == r && elements(x).as_slice().iter().all(|e| *e < n)
-}
-
-// Whether the set stands before all the others.
-fn is_before_all(x: Set, others: &[Set]) -> bool
-    ensures { IsTrue result → AllByRecursion (IsBefore x) others.now }
-{
-    match others.split_first() {
-        None => true,
-        Some(parts) => is_before(x, *parts.0) && is_before_all(x, parts.1),
-    }
-}
-
-// Whether these are sets of r elements below n, in order.
-fn are_sets_of(n: u32, r: u32, sets: &[Set]) -> bool
-    ensures { IsTrue result → All (IsSetOf n r) sets.now × IsStrictlySortedBy list_cmp sets.now }
-{
-    match sets.split_first() {
-        None => true,
-        Some(parts) => {
-            if !is_set_of(n, r, *parts.0) {
-                return false;
-            }
-            if !is_before_all(*parts.0, parts.1) {
-                return false;
-            }
-            are_sets_of(n, r, parts.1)
-        }
-    }
-}
 
 // What is answered to the sets whose elements are the places of the bits.
 fn made(
@@ -63,6 +24,43 @@ fn made(
         return Err("the sets are in order".into());
     }
     Ok(Matroid::from_nonbases(alloc, n, r, sets.as_slice()))
+}
+
+// The table of the sets whose elements are the places of the bits.
+fn table(alloc: Global, n: u32, r: u32, masks: &[u64]) -> Result<SetTable, Fail> {
+    let mut sets = Vec::new(alloc);
+    for mask in masks {
+        sets.push(Set::of_mask(*mask).ok_or("the elements are below 32")?)?;
+    }
+    if n > 32 || r > n || binomial(n, r).is_none() {
+        return Err("the numbers are within the limits".into());
+    }
+    if !are_sets_of(n, r, sets.as_slice()) {
+        return Err("the sets are in order".into());
+    }
+    Ok(SetTable::new(alloc, n, r, sets.as_slice())?)
+}
+
+// Whether the set is listed, and what fits in the place of its element.
+fn fits(t: &SetTable, mask: u64, x: u32) -> Option<(bool, u64)> {
+    let b1 = Set::of_mask(mask)?;
+    if !is_set_of(t.elements(), t.rank(), b1) {
+        return None;
+    }
+    if x >= 32 {
+        return None;
+    }
+    if !b1.has(x) {
+        return None;
+    }
+    Some((t.listed(b1), t.fits(b1, x).mask()))
+}
+
+// The first set that isn't listed and has none of the elements.
+fn missing(t: &SetTable, mask: u64) -> Option<u64> {
+    let f = Set::of_mask(mask)?;
+    let b = t.missing(f)?;
+    Some(b.mask())
 }
 
 // The sets and the element of a failing exchange.
@@ -167,5 +165,91 @@ fn a_matroid_with_a_loop_and_a_coloop(rt: HostRuntime) -> Result<(), Fail> {
     let all = made(alloc, 3, 3, [].as_slice())??;
     assert!(rt; ends(&all, 0) == Some((false, true)));
     assert_eq!(rt; all.first_basis().mask(), 7);
+    Ok(())
+}
+
+#[test]
+fn what_fits_and_what_is_missing(rt: HostRuntime) -> Result<(), Fail> {
+    // Of rank 2 on 4 elements 01 and 12 are listed.
+    let t = table(rt.alloc(), 4, 2, [3u64, 6].as_slice())?;
+    assert!(rt; fits(&t, 10, 3) == Some((false, 8)));
+    assert!(rt; fits(&t, 3, 1) == Some((true, 12)));
+    assert!(rt; missing(&t, 8) == Some(5));
+    assert!(rt; missing(&t, 5) == Some(10));
+    assert!(rt; missing(&t, 12).is_none());
+    Ok(())
+}
+
+// The sets of two of four elements, in order.
+const PAIRS: [u64; 6] = [3, 5, 9, 6, 10, 12];
+
+// Whether the pair at a place is none of the family, whose bits tell which pairs are.
+fn is_plain_basis(family: u64, pair: u64) -> bool {
+    for k in 0..6u32 {
+        if PAIRS[k as usize] == pair {
+            return family >> k & 1 == 0;
+        }
+    }
+    false
+}
+
+// Whether some element of b2 alone can take the place of x in b1.
+fn can_replace(family: u64, b1: u64, b2: u64, x: u64) -> bool {
+    for y in [1u64, 2, 4, 8].as_slice() {
+        if b2 & !b1 & *y != 0 && is_plain_basis(family, b1 & !x | *y) {
+            return true;
+        }
+    }
+    false
+}
+
+// The least element of b1 alone that nothing in b2 can replace.
+fn plain_element(family: u64, b1: u64, b2: u64) -> Option<u32> {
+    for x in 0..4u32 {
+        if b1 & !b2 & 1 << x != 0 && !can_replace(family, b1, b2, 1 << x) {
+            return Some(x);
+        }
+    }
+    None
+}
+
+// The first exchange that fails, tried one after another.
+fn plain_failure(family: u64) -> Option<(u64, u64, u32)> {
+    for b1 in PAIRS.as_slice() {
+        for b2 in PAIRS.as_slice() {
+            if is_plain_basis(family, *b1) && is_plain_basis(family, *b2) {
+                if let Some(x) = plain_element(family, *b1, *b2) {
+                    return Some((*b1, *b2, x));
+                }
+            }
+        }
+    }
+    None
+}
+
+// The sets and the element of the failing exchange, where one was answered.
+fn exchange_of(answer: Option<MatroidFault>) -> Option<(u64, u64, u32)> {
+    exchange(answer?)
+}
+
+// The pairs of the family.
+fn pairs_of(alloc: Global, family: u64) -> Result<Vec<u64>, Fail> {
+    let mut masks = Vec::new(alloc);
+    for k in 0..6u32 {
+        if family >> k & 1 == 1 {
+            masks.push(PAIRS[k as usize])?;
+        }
+    }
+    Ok(masks)
+}
+
+#[test]
+fn each_family_of_pairs_is_answered_as_by_the_plain_search(rt: HostRuntime) -> Result<(), Fail> {
+    let alloc = rt.alloc();
+    for family in 0..63u64 {
+        let masks = pairs_of(alloc, family)?;
+        let answer = made(alloc, 4, 2, masks.as_slice())?.err();
+        assert!(rt; exchange_of(answer) == plain_failure(family), "at {family}");
+    }
     Ok(())
 }

@@ -8,13 +8,13 @@ use Rattle.mr_assign.specs.declared.TheConstants.{VALUES}
 use Rattle.mr_assign.specs.Assign.{IsPartOf}
 use Rattle.mr_frame.specs.Frame.{Framed}
 use Rattle.mr_nogood.specs.Row.{cite_for}
-use Rattle.mr_nogood.specs.Follows.{Rows, Holds, Follows}
-use Rattle.mr_nogood.specs.Checking.{IsOpen, named, HoldsBy, Accounts}
+use Rattle.mr_nogood.specs.Follows.{Rows, CiteHolds, Follows}
+use Rattle.mr_nogood.specs.Private.Checking.{IsOpen, cited_row, HoldsBy, Accounts}
 use Rattle.mr_nogood.specs.declared.row.Cite.{Cite}
 use Rattle.mr_nogood.specs.declared.row.Cite.TheVariants.{Nothing, Test, Slot}
 use Rattle.mr_nogood.specs.declared.row.Row.{Row}
 
--- a row that is named is one that a cite rests on just where its clause is a part of the assignment
+-- a row that is cited_row is one that a cite rests on just where its clause is a part of the assignment
 pub by_row : (f : Framed) (found : Option Row) (r : Row) (rank : ℕ) (a : List ℕ) (s : ℕ) (b : Bool) → found ≡ Some r → r.rank < rank → (IsTrue b ↔ IsPartOf r.clause a) → IsTrue b ↔ HoldsBy f found rank a (Slot s)
 by_row f found r rank a s b is less iff = (
   λ yes. (r, is, less, iff.0 yes),
@@ -22,7 +22,7 @@ by_row f found r rank a s b is less iff = (
 )
 
 -- a cite holds where it does by the row that it names
-by_holds : (f : Framed) (given : Rows) (rank : ℕ) (a : List ℕ) (cite : Cite) → HoldsBy f (named given cite) rank a cite → Holds f given rank a cite
+by_holds : (f : Framed) (given : Rows) (rank : ℕ) (a : List ℕ) (cite : Cite) → HoldsBy f (cited_row given cite) rank a cite → CiteHolds f given rank a cite
 by_holds f given rank a Nothing holds = holds
 by_holds f given rank a (Test x) holds = holds
 by_holds f given rank a (Slot s) holds = holds
@@ -40,7 +40,7 @@ accounts_within f row found k a cite b lt is read iff = (
 
 -- the first of a row's cites are such as they must be
 abbrev pub AccountsBelow : Framed → Rows → Row → ℕ → Type 0
-AccountsBelow f given row k = (j : ℕ) → j < k → (length row.cites ≡ VALUES) × Accounts f row (named given (cite_for row j)) j
+AccountsBelow f given row k = (j : ℕ) → j < k → (length row.cites ≡ VALUES) × Accounts f row (cited_row given (cite_for row j)) j
 
 -- a field has no more values than there are cites
 order-le : (f : Gf) → order f ≤ VALUES + 1

@@ -9,7 +9,7 @@ use Rattle.mr_frame.specs.Test.{SetFails}
 use Rattle.mr_frame.specs.Completion.{IsCompletion}
 use Rattle.mr_frame.proofs.Apart.{parts_tell}
 use Rattle.mr_nogood.specs.Row.{cite_for}
-use Rattle.mr_nogood.specs.Follows.{Rows, Holds, Follows, Excludes}
+use Rattle.mr_nogood.specs.Follows.{Rows, CiteHolds, Follows, Excludes}
 use Rattle.mr_nogood.specs.Laws.{RowsThatFollowExclude, MoreRowsKeepWhatFollows, CitedRowsHaveSmallerRanks, RowsThatFollowFromEachOtherExclude}
 use Rattle.mr_nogood.specs.declared.row.Cite.{Cite}
 use Rattle.mr_nogood.specs.declared.row.Cite.TheVariants.{Nothing, Test, Slot}
@@ -35,7 +35,7 @@ completes_part f a b c done part = record { map = done.map; assignment = done.as
 
 -- no completion of a map is left where a cite holds of it
 pub cite_excludes : (f : Framed) (given : Rows) (rank : ℕ) (a c : List ℕ) (cite : Cite) → IsFrame f → ((s : ℕ) (r : Row) → given s ≡ Some r → r.rank < rank → Excludes f r)
-    → IsCompletion f a c → Holds f given rank a cite → ⊥
+    → IsCompletion f a c → CiteHolds f given rank a cite → ⊥
 cite_excludes f given rank a c Nothing frame below done holds = holds
 cite_excludes f given rank a c (Test x) frame below done holds = done.holds x (fails_more f a c x frame done holds)
 cite_excludes f given rank a c (Slot s) frame below done (r, is, less, part) =
@@ -51,10 +51,10 @@ rows_that_follow_exclude f given row frame follows below c done =
     let lt : (v - 1) + 1 < order f.field = omega arith in
     cite_excludes f given row.rank (set row.clause row.at v) c (cite_for row (v - 1)) frame below
     (completes_part f row.clause (set row.clause row.at v) c done (part_with row.clause c row.at done.contains))
-    (subst (λ u. Holds f given row.rank (set row.clause row.at u) (cite_for row (v - 1))) is (follows.cites (v - 1) lt))
+    (subst (λ u. CiteHolds f given row.rank (set row.clause row.at u) (cite_for row (v - 1))) is (follows.cites (v - 1) lt))
 
 -- where more rows are given, each cite still holds
-holds_more : (f : Framed) (some more : Rows) (rank : ℕ) (a : List ℕ) (cite : Cite) → ((s : ℕ) (r : Row) → some s ≡ Some r → more s ≡ Some r) → Holds f some rank a cite → Holds f more rank a cite
+holds_more : (f : Framed) (some more : Rows) (rank : ℕ) (a : List ℕ) (cite : Cite) → ((s : ℕ) (r : Row) → some s ≡ Some r → more s ≡ Some r) → CiteHolds f some rank a cite → CiteHolds f more rank a cite
 holds_more f some more rank a Nothing kept holds = holds
 holds_more f some more rank a (Test x) kept holds = holds
 holds_more f some more rank a (Slot s) kept (r, is, less, part) = (r, kept s r is, less, part)
@@ -71,8 +71,8 @@ more_rows_keep_what_follows f some more row kept follows = record {
 }
 
 -- a cite by number that holds names a row of smaller rank
-held_rank : (f : Framed) (given : Rows) (rank : ℕ) (a : List ℕ) (cite : Cite) (s : ℕ) → cite ≡ Slot s → Holds f given rank a cite → (r : Row) × (given s ≡ Some r) × (r.rank < rank)
-held_rank f given rank a cite s is holds = let named = subst (Holds f given rank a) is holds in (named.0, named.1, named.2)
+held_rank : (f : Framed) (given : Rows) (rank : ℕ) (a : List ℕ) (cite : Cite) (s : ℕ) → cite ≡ Slot s → CiteHolds f given rank a cite → (r : Row) × (given s ≡ Some r) × (r.rank < rank)
+held_rank f given rank a cite s is holds = let named = subst (CiteHolds f given rank a) is holds in (named.0, named.1, named.2)
 
 -- a row that follows rests on given rows of smaller rank alone
 pub cited_rows_have_smaller_ranks : CitedRowsHaveSmallerRanks

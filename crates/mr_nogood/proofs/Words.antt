@@ -10,17 +10,17 @@ use Rattle.std.proofs.lemmas.Nat.{or_lt}
 use Rattle.std.proofs.Math.Nat.{pow-le-pow_right}
 use Rattle.std.proofs.Math.Seq.{take-append_seam, drop-append_seam}
 use Rattle.mr_set.specs.Elements.{elements_below, mask_of}
-use Rattle.mr_set.specs.Masks.{mask_of-elements_below}
+use Rattle.mr_set.specs.Private.Masks.{mask_of-elements_below}
 use Rattle.mr_set.proofs.Bits.{with_bit}
 use Rattle.mr_set.proofs.Sorted.{all_head, all_tail, all_above, sorted_parts, with_front}
 use Rattle.mr_assign.specs.Assign.{IsAssign}
-use Rattle.mr_assign.specs.Packing.{nibbles, words_of}
-use Rattle.mr_assign.specs.Again.{length-words_of}
+use Rattle.mr_assign.specs.Packing.{nibbles, map_words}
+use Rattle.mr_assign.specs.Private.Again.{length-words_of}
 use Rattle.mr_assign.specs.declared.TheConstants.{CLAUSE_WORDS, VALUES}
 use Rattle.mr_assign.proofs.Masks.{nibbles-words_of}
 use Rattle.mr_nogood.specs.declared.TheConstants.{ROW_WORDS}
 use Rattle.mr_nogood.specs.Row.{cite_for, IsCite, IsRow}
-use Rattle.mr_nogood.specs.Packing.{head_of, cite_word, packed}
+use Rattle.mr_nogood.specs.Packing.{head_of, cite_word, row_packing}
 use Rattle.mr_nogood.specs.Unpacking.{cite_of, unpacked}
 use Rattle.mr_nogood.specs.Laws.{RowsHaveWordsOfTheirOwn}
 use Rattle.mr_nogood.specs.declared.row.Cite.{Cite}
@@ -100,17 +100,17 @@ head-at : (count at rank : ℕ) → rank < 2 ^ 32 → at < 2 ^ 8 → (2 ^ 63 + c
 head-at count at rank small low = omega arith
 
 -- a row comes back from its words
-pub unpacked-packed : (row : Row) → IsRow row → unpacked (packed row) ≡ row
+pub unpacked-packed : (row : Row) → IsRow row → unpacked (row_packing row) ≡ row
 unfolding unpacked
 unpacked-packed row is =
     let size = length-words_of row.clause in
     let cs : List ℕ = map cite_word row.cites in
     let count : ℕ = count_by (λ v. nat_lt 0 v) row.clause in
-    same_rows (unpacked (packed row)) row
+    same_rows (unpacked (row_packing row)) row
     (head-rank count row.at row.rank is.rank)
     (head-at count row.at row.rank is.rank is.at)
-    (ap nibbles (clause_words (head_of row) (words_of row.clause) cs size) ∙ nibbles-words_of row.clause is.clause)
-    (ap (map cite_of) (cite_words (head_of row) (words_of row.clause) cs size) ∙ cites_back row.cites is.cites)
+    (ap nibbles (clause_words (head_of row) (map_words row.clause) cs size) ∙ nibbles-words_of row.clause is.clause)
+    (ap (map cite_of) (cite_words (head_of row) (map_words row.clause) cs size) ∙ cites_back row.cites is.cites)
 
 -- so rows have words of their own
 pub rows_have_words_of_their_own : RowsHaveWordsOfTheirOwn
@@ -119,11 +119,11 @@ rows_have_words_of_their_own a b isa isb same = sym (unpacked-packed a isa) ∙ 
 -- the words have the head and the clause of a row, and its first cites, which are such as a row may have
 pub record IsPackedTo (row : Row) (words : List ℕ) (k : ℕ) : Type 0 where
   pub size : length words ≡ ROW_WORDS
-  pub front : take 7 words ≡ head_of row ∷ words_of row.clause
+  pub front : take 7 words ≡ head_of row ∷ map_words row.clause
   pub cites : (j : ℕ) → j < k → (length row.cites ≡ VALUES) × IsCite (cite_for row j) × (get_or words (7 + j) 0 ≡ cite_word (cite_for row j))
 
 -- the head and the clause are written first
-pub packed_none : (row : Row) (h : ℕ) (ws ys : List ℕ) → h ≡ head_of row → ws ≡ words_of row.clause → length ys ≡ VALUES → IsPackedTo row (h ∷ (ws ++ ys)) 0
+pub packed_none : (row : Row) (h : ℕ) (ws ys : List ℕ) → h ≡ head_of row → ws ≡ map_words row.clause → length ys ≡ VALUES → IsPackedTo row (h ∷ (ws ++ ys)) 0
 packed_none row h ws ys head clause rest =
     let six : length ws ≡ CLAUSE_WORDS = ap length clause ∙ length-words_of row.clause in
     record {
@@ -147,14 +147,14 @@ packed_more row words k w cite lt count is good word h = record {
 }
 
 -- after the last they are the words of the row
-pub packed_all : (row : Row) (words : List ℕ) → IsPackedTo row words VALUES → words ≡ packed row
+pub packed_all : (row : Row) (words : List ℕ) → IsPackedTo row words VALUES → words ≡ row_packing row
 packed_all row words h =
     let count = (h.cites 0 (omega arith)).0 in
     let back : drop 7 words ≡ map cite_word row.cites =
     ext_get_or 0 (drop 7 words) (map cite_word row.cites) (let n = h.size in let m = length-map row.cites cite_word in omega (arith, length-drop 7 words)) (λ j lt.
     let inside : j < VALUES = let n = h.size in omega (arith, length-drop 7 words) in
     get_or-drop 7 words j 0 ∙ (h.cites j inside).2 ∙ sym (get_or-map cite_word row.cites j Nothing 0 (omega arith))) in
-    sym (take-append-drop 7 words) ∙ ap (λ t. t ++ drop 7 words) h.front ∙ ap (λ t. (head_of row ∷ words_of row.clause) ++ t) back
+    sym (take-append-drop 7 words) ∙ ap (λ t. t ++ drop 7 words) h.front ∙ ap (λ t. (head_of row ∷ map_words row.clause) ++ t) back
 
 -- and the row is such as the code may hold it
 pub packed_row : (row : Row) (words : List ℕ) → row.rank < 2 ^ 32 → row.at < 2 ^ 8 → IsAssign row.clause → IsPackedTo row words VALUES → IsRow row
@@ -177,11 +177,11 @@ read_all words clause cites size clause_is count reads =
     ap (λ c. made (get_or words 0 0 % 2 ^ 32) (get_or words 0 0 / 2 ^ 32 % 2 ^ 8) c cites) clause_is ∙ ap (made (get_or words 0 0 % 2 ^ 32) (get_or words 0 0 / 2 ^ 32 % 2 ^ 8) (nibbles (slice_range words 1 7))) back
 
 -- the words of a row are those of what is read from them
-pub packed-unpacked : (words : List ℕ) (r row : Row) → r ≡ unpacked words → IsRow row → words ≡ packed row → packed r ≡ words
-packed-unpacked words r row is good same = ap packed (is ∙ ap unpacked same ∙ unpacked-packed row good) ∙ sym same
+pub packed-unpacked : (words : List ℕ) (r row : Row) → r ≡ unpacked words → IsRow row → words ≡ row_packing row → row_packing r ≡ words
+packed-unpacked words r row is good same = ap row_packing (is ∙ ap unpacked same ∙ unpacked-packed row good) ∙ sym same
 
 -- and no nibble of the clause's words is above the values
-pub none_large : (words : List ℕ) (row : Row) → IsRow row → words ≡ packed row → Any (λ v. VALUES < v) (nibbles (slice_range words 1 7)) → ⊥
+pub none_large : (words : List ℕ) (row : Row) → IsRow row → words ≡ row_packing row → Any (λ v. VALUES < v) (nibbles (slice_range words 1 7)) → ⊥
 unfolding unpacked
 none_large words row good same (p, v, lt, read, large) =
     let clause_is : nibbles (slice_range words 1 7) ≡ row.clause = ap (λ (r : Row). r.clause) (ap unpacked same ∙ unpacked-packed row good) in

@@ -28,10 +28,10 @@ in_slots rows s = at_slot (slice_get rows s)
 
 -- A cite holds of an assignment where it is a set that fails under it, or a given row of smaller rank whose clause is a
 -- part of it.
-abbrev pub Holds : Framed → Rows → ℕ → List ℕ → Cite → Type 0
-Holds f given rank a Nothing = ⊥
-Holds f given rank a (Test x) = SetFails f a x
-Holds f given rank a (Slot s) = (row : Row) × (given s ≡ Some row) × (row.rank < rank) × IsPartOf row.clause a
+abbrev pub CiteHolds : Framed → Rows → ℕ → List ℕ → Cite → Type 0
+CiteHolds f given rank a Nothing = ⊥
+CiteHolds f given rank a (Test x) = SetFails f a x
+CiteHolds f given rank a (Slot s) = (row : Row) × (given s ≡ Some row) × (row.rank < rank) × IsPartOf row.clause a
 
 -- The clause is an assignment that gives no value to the row's position. Whichever value the position is given then, the
 -- cite for it holds. There are no cites for values that the field doesn't have.
@@ -40,7 +40,7 @@ pub record Follows (f : Framed) (given : Rows) (row : Row) : Type 0 where
   pub clause : IsAssignmentOf f row.clause
   pub position : row.at < length f.places
   pub no_value : slice_index row.clause row.at ≡ 0
-  pub cites : (k : ℕ) → k + 1 < order f.field → Holds f given row.rank (slice_set row.clause row.at (k + 1)) (cite_for row k)
+  pub cites : (k : ℕ) → k + 1 < order f.field → CiteHolds f given row.rank (slice_set row.clause row.at (k + 1)) (cite_for row k)
   pub others : (k : ℕ) → order f.field ≤ k + 1 → cite_for row k ≡ Nothing
 
 -- no full assignment that contains the clause is one under which no set fails

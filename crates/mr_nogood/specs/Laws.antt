@@ -3,7 +3,7 @@ use Rattle.std.specs.Prelude.{◌≡◌, ℕ, ◌<◌, Some}
 use Rattle.mr_frame.specs.Frame.{Framed, IsFrame}
 use Rattle.mr_nogood.specs.Row.{IsRow, cite_for}
 use Rattle.mr_nogood.specs.Follows.{Rows, Follows, Excludes}
-use Rattle.mr_nogood.specs.Packing.{packed}
+use Rattle.mr_nogood.specs.Packing.{row_packing}
 use Rattle.mr_nogood.specs.Unpacking.{unpacked}
 use Rattle.mr_nogood.specs.declared.row.Cite.TheVariants.{Slot}
 use Rattle.mr_nogood.specs.declared.row.Row.{Row}
@@ -19,7 +19,7 @@ MoreRowsKeepWhatFollows = (f : Framed) (some more : Rows) (row : Row) → ((s : 
 
 -- rows have words of their own
 abbrev pub RowsHaveWordsOfTheirOwn : Type 0
-RowsHaveWordsOfTheirOwn = (a b : Row) → IsRow a → IsRow b → packed a ≡ packed b → a ≡ b
+RowsHaveWordsOfTheirOwn = (a b : Row) → IsRow a → IsRow b → row_packing a ≡ row_packing b → a ≡ b
 
 -- a row that follows rests on given rows of smaller rank alone
 abbrev pub CitedRowsHaveSmallerRanks : Type 0
@@ -31,4 +31,4 @@ RowsThatFollowFromEachOtherExclude = (f : Framed) (given : Rows) → IsFrame f �
 
 -- a row comes back from its words
 abbrev pub RowsComeBackFromTheirWords : Type 0
-RowsComeBackFromTheirWords = (row : Row) → IsRow row → unpacked (packed row) ≡ row
+RowsComeBackFromTheirWords = (row : Row) → IsRow row → unpacked (row_packing row) ≡ row

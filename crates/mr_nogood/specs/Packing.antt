@@ -1,7 +1,7 @@
 -- The words of a row.
 use Rattle.std.specs.Prelude.{ℕ, ◌+◌, ◌*◌, ◌^◌, List, ◌∷◌, ◌++◌, map, count_by, nat_lt}
 use Rattle.mr_set.specs.Elements.{mask_of}
-use Rattle.mr_assign.specs.Packing.{words_of}
+use Rattle.mr_assign.specs.Packing.{map_words}
 use Rattle.mr_nogood.specs.declared.row.Cite.{Cite}
 use Rattle.mr_nogood.specs.declared.row.Cite.TheVariants.{Nothing, Test, Slot}
 use Rattle.mr_nogood.specs.declared.row.Row.{Row}
@@ -17,5 +17,5 @@ cite_word (Test x) = 2 ^ 56 + mask_of x
 cite_word (Slot s) = 2 ^ 57 + s
 
 -- the words of a row: the first one, those of its clause, and one for each cite
-abbrev pub packed : Row → List ℕ
-packed row = head_of row ∷ (words_of row.clause ++ map cite_word row.cites)
+abbrev pub row_packing : Row → List ℕ
+row_packing row = head_of row ∷ (map_words row.clause ++ map cite_word row.cites)

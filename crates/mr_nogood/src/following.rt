@@ -1,15 +1,14 @@
 ghost use Rattle.std.specs.Prelude.{◌≡◌, ◌↔◌, ◌+◌, ◌<◌, IsTrue, length, option_copied};
-ghost use Rattle.mr_set.specs.Subsets.{IsSetOf};
 ghost use Rattle.mr_assign.specs.declared.TheConstants.{VALUES};
 ghost use Rattle.mr_frame.specs.Test.{IsAssignmentOf, SetFails};
 ghost use Rattle.mr_nogood.specs.Follows.{in_list, in_slots, Follows};
-ghost use Rattle.mr_nogood.specs.Checking.{named, IsOpen, HoldsBy, Accounts};
+ghost use Rattle.mr_nogood.specs.Private.Checking.{cited_row, IsOpen, HoldsBy, Accounts};
 
 use crate::row::cite_at;
 use crate::{Cite, Row};
-use mr_assign::{Assign, POSITIONS, VALUES};
+use mr_assign::{Assign, VALUES};
 use mr_frame::{Frame, Verdict};
-use mr_set::{Set, elements};
+use mr_set::{Set, is_set_of};
 
 /// Whether the row follows from those of the list, which its cites name by their places. A cite of a place
 /// past the end, or of one without a row, holds of nothing. Any row may be asked of any frame: one whose
@@ -47,7 +46,7 @@ pub fn follows_steps(frame: &Frame, row: &Row, steps: &[Row]) -> bool
 
 // The row that a cite names, if it is there.
 fn in_slot<'a>(earlier: &'a [Option<Row>], cite: &Cite) -> Option<&'a Row>
-    ensures { option_copied result ≡ named (in_slots earlier.now) cite.now }
+    ensures { option_copied result ≡ cited_row (in_slots earlier.now) cite.now }
 {
     match cite {
         Cite::Slot(s) => match earlier.get(*s as usize) {
@@ -60,7 +59,7 @@ fn in_slot<'a>(earlier: &'a [Option<Row>], cite: &Cite) -> Option<&'a Row>
 
 // The step that a cite names, if it is there.
 fn step<'a>(steps: &'a [Row], cite: &Cite) -> Option<&'a Row>
-    ensures { option_copied result ≡ named (in_list steps.now) cite.now }
+    ensures { option_copied result ≡ cited_row (in_list steps.now) cite.now }
 {
     match cite {
         Cite::Slot(s) => steps.get(*s as usize),
@@ -78,24 +77,7 @@ fn is_open(frame: &Frame, row: &Row) -> bool
     if at >= frame.free() {
         return false;
     }
-    row.clause.get(at) == 0 && is_assignment(frame, &row.clause)
-}
-
-// Whether the map gives elements of the field to free positions, and to nothing else.
-fn is_assignment(frame: &Frame, a: &Assign) -> bool
-    ensures { IsTrue result ↔ IsAssignmentOf frame.now a.now }
-{
-    // The clauses of `words` say that there are no more positions.
-    let _words = a.words();
-    let count = frame.free();
-    let order = frame.field().order();
-    for p in 0..POSITIONS {
-        let v = a.get(p);
-        if v != 0 && (p >= count || v >= order) {
-            return false;
-        }
-    }
-    true
+    row.clause.get(at) == 0 && frame.is_assignment(&row.clause)
 }
 
 // Whether the cite for the value k + 1 is such as a row that follows has, where it names the row that was
@@ -152,13 +134,4 @@ pub fn fails(frame: &Frame, x: Set, a: &Assign) -> bool
         Verdict::Fails => true,
         Verdict::Holds | Verdict::Unknown => false,
     }
-}
-
-/// Whether the set has r elements, all below n.
-pub(crate) fn is_set_of(n: u32, r: u32, x: Set) -> bool
-    ensures { IsTrue result ↔ IsSetOf n r x }
-{
-    // The clauses of `mask` say that the elements stand in order.
-    let _mask = x.mask();
-    x.len() == r && elements(x).as_slice().iter().all(|e| *e < n)
 }

@@ -11,7 +11,7 @@ mod tests;
 
 pub use following::{fails, follows, follows_steps};
 pub use list::RowList;
-pub use packing::{pack, unpack};
+pub use packing::{head_of, pack, unpack};
 pub use row::{Cite, Row};
 
 /// The words of a packed row.

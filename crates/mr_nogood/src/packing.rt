@@ -2,7 +2,7 @@ ghost use Rattle.std.specs.Prelude.{◌≡◌, ◌≢◌, ◌<◌, ◌≤◌, �
 ghost use Rattle.mr_assign.specs.declared.TheConstants.{POSITIONS};
 ghost use Rattle.mr_assign.specs.Packing.{nibbles};
 ghost use Rattle.mr_nogood.specs.Row.{IsCite, IsRow};
-ghost use Rattle.mr_nogood.specs.Packing.{cite_word, packed};
+ghost use Rattle.mr_nogood.specs.Packing.{cite_word, head_of, row_packing};
 ghost use Rattle.mr_nogood.specs.Unpacking.{cite_of, unpacked};
 
 use crate::row::cite_at;
@@ -26,7 +26,7 @@ const CITES: usize = 1 + CLAUSE_WORDS;
 /// clause's pairs, then the words of the clause, then a word for each cite. That one is 0 for `Nothing`,
 /// 2^56 and the mask for a set, and 2^57 and the number for a row.
 pub fn pack(row: &Row) -> [u64; ROW_WORDS]
-    ensures packing { result ≡ packed row.now }
+    ensures packing { result ≡ row_packing row.now }
     ensures row { IsRow row.now }
 {
     let clause = row.clause.words();
@@ -39,11 +39,22 @@ pub fn pack(row: &Row) -> [u64; ROW_WORDS]
     words
 }
 
+/// The first of a row's words, which is for its clause's number of pairs, its position and its rank.
+pub fn head_of(row: &Row) -> u64
+    ensures word { result ≡ head_of row.now }
+    ensures rank { row.now.rank < 2 ^ 32 }
+    ensures at { row.now.at < 2 ^ 8 }
+{
+    // The clauses of `words` say that it is a map.
+    let _words = row.clause.words();
+    head(row.clause.count(), row.at, row.rank)
+}
+
 /// The row of these words. There is none where they are not just as `pack` gives them for a row.
 pub fn unpack(words: &[u64; ROW_WORDS]) -> Option<Row>
-    ensures some { IfSome result (λ row. words.now ≡ packed row) }
+    ensures some { IfSome result (λ row. words.now ≡ row_packing row) }
     ensures row { IfSome result IsRow }
-    ensures none { IsNone result → (row : Row) → IsRow row → words.now ≢ packed row }
+    ensures none { IsNone result → (row : Row) → IsRow row → words.now ≢ row_packing row }
 {
     let mut clause = [0; CLAUSE_WORDS];
     clause.copy_from_slice(&words[1..CITES]);

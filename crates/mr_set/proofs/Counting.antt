@@ -4,7 +4,7 @@ use Rattle.std.specs.Prelude.{All}
 use Rattle.std.specs.List.Sorted.{IsStrictlySortedBy}
 use Rattle.std.proofs.lemmas.Cmp.{nat_list_cmp_total}
 use Rattle.mr_set.specs.Subsets.{IsSetOf, choose, list_cmp}
-use Rattle.mr_set.specs.Enumeration.{sets_from}
+use Rattle.mr_set.specs.Private.Enumeration.{sets_from}
 use Rattle.mr_set.specs.Places.{IsAllSets}
 use Rattle.mr_set.proofs.Ordered.{length-le_from_members}
 use Rattle.mr_set.proofs.Listing.{all_sets, length-sets_from}

@@ -12,7 +12,7 @@ use Rattle.std.proofs.lemmas.Nat.{pow_pos}
 use Rattle.mr_set.specs.Elements.{with_element, numbers_below}
 use Rattle.mr_set.specs.Subsets.{IsSetOf, IsBefore, IsFirst, IsNext, IsLast, list_cmp}
 use Rattle.mr_set.proofs.Members.{cmp_from_less}
-use Rattle.mr_set.specs.Enumeration.{IsFrom, run, IsNextFrom, IsLastFrom, weight}
+use Rattle.mr_set.specs.Private.Enumeration.{IsFrom, run, IsNextFrom, IsLastFrom, weight}
 use Rattle.mr_set.proofs.Sorted.{all_head, all_tail, all_cons, all_none, below_all, all_above, sorted_cons, sorted_parts, sorted_none, with_front}
 
 -- with the same first number the rests decide

@@ -8,7 +8,7 @@ use Rattle.std.proofs.lemmas.Cmp.{nat_list_cmp_total}
 use Rattle.std.proofs.lemmas.List.{length-map}
 use Rattle.std.proofs.lemmas.List.Elements.{Contains-append_left, Contains-append_right, Contains-append_cases}
 use Rattle.mr_set.specs.Subsets.{IsBefore, choose, list_cmp}
-use Rattle.mr_set.specs.Enumeration.{IsFrom, sets_from}
+use Rattle.mr_set.specs.Private.Enumeration.{IsFrom, sets_from}
 use Rattle.mr_set.specs.Places.{IsAllSets}
 use Rattle.mr_set.proofs.Lexicographic.{before_same, before_less, from_head, from_tail, from_cons, from_none, from_set, set_from}
 use Rattle.mr_set.proofs.Ordered.{member_first, member_later, member_cases, member_none, sorted_join, same_members}

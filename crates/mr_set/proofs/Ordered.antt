@@ -1,5 +1,5 @@
 -- Lists in strictly increasing order: places, joins, and when two of them are equal.
-use Rattle.std.proofs.Common.{◌≡◌, ◌↔◌, ℕ, zero, suc, ◌≤◌, ◌⊎◌, List, [], ◌∷◌, ◌++◌, length, get_or, Some, refl, sym, ap, subst, ◌∙◌, inl, inr, arith}
+use Rattle.std.proofs.Common.{◌≡◌, ◌↔◌, ℕ, zero, suc, ◌-◌, ◌≤◌, ◌⊎◌, List, [], ◌∷◌, ◌++◌, length, get_or, Some, refl, sym, ap, subst, ◌∙◌, inl, inr, arith}
 use Rattle.std.specs.Prelude.{◌<◌, Contains}
 use Rattle.std.specs.List.{AllByRecursion, slice_get}
 use Rattle.std.specs.List.Sorted.{IsStrictlySortedBy}
@@ -119,3 +119,26 @@ length-le_from_members {X} {cmp} total (y ∷ ys) (x ∷ xs) first second within
       ]) (within z inside)) in
       omega arith
 ]
+
+-- each of the first n members comes before the next
+abbrev pub RisesTo : {X : Type 0} → (X → X → Ordering) → List X → ℕ → Type 0
+RisesTo {X} cmp xs n = (k : ℕ) (d : X) → suc k < n → cmp (get_or xs k d) (get_or xs (suc k) d) ≡ Less
+
+-- what comes before the first of some members that come after y comes before all of them
+all_after : {X : Type 0} {cmp : X → X → Ordering} → IsTotalOrder cmp → (x y : X) (ys : List X) → cmp x y ≡ Less → AllByRecursion (λ z. cmp y z ≡ Less) ys → AllByRecursion (λ z. cmp x z ≡ Less) ys
+all_after total x y [] before after = tt
+all_after total x y (z ∷ zs) before after = (total.trans x y z before after.0, all_after total x y zs before after.1)
+
+-- where each member comes before the next the list is in order
+pub sorted-from_rising : {X : Type 0} {cmp : X → X → Ordering} → IsTotalOrder cmp → (xs : List X) → RisesTo cmp xs (length xs) → IsStrictlySortedBy cmp xs
+unfolding IsStrictlySortedBy
+sorted-from_rising total [] rises = tt
+sorted-from_rising total (x ∷ []) rises = (tt, tt)
+sorted-from_rising total (x ∷ y ∷ ys) rises =
+    let rest = sorted-from_rising total (y ∷ ys) (λ k d lt. rises (suc k) d (omega arith)) in
+    let first = rises 0 x (omega arith) in
+    ((first, all_after total x y ys first rest.0), rest)
+
+-- in a list in order the member that is read at a place comes before the one at the next
+pub rising-at : {X : Type 0} (cmp : X → X → Ordering) (xs : List X) (i : ℕ) (x y : X) → IsStrictlySortedBy cmp xs → 1 ≤ i → i < length xs → x ≡ get_or xs (i - 1) x → y ≡ get_or xs i y → cmp x y ≡ Less
+rising-at cmp xs i x y sorted some lt is next = later_is_greater cmp xs (i - 1) i x y sorted (slice_get-get_or xs (i - 1) x (omega arith) ∙ ap Some (sym is)) (slice_get-get_or xs i y lt ∙ ap Some (sym next)) (omega arith)

@@ -9,7 +9,7 @@ use Rattle.std.proofs.lemmas.List.Elements.{Contains-get_or}
 use Rattle.std.proofs.lemmas.Option.{none-some, slice_get-map, slice_get_within}
 use Rattle.mr_set.specs.Elements.{IsSet, with_element, without_element}
 use Rattle.mr_set.specs.Subsets.{choose}
-use Rattle.mr_set.specs.Enumeration.{IsFrom, sets_from}
+use Rattle.mr_set.specs.Private.Enumeration.{IsFrom, sets_from}
 use Rattle.mr_set.specs.Places.{IsPlaceOf}
 use Rattle.mr_set.proofs.Sorted.{all_head, all_tail, with_front}
 use Rattle.mr_set.proofs.Lexicographic.{from_head, from_tail}

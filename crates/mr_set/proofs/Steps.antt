@@ -3,7 +3,7 @@ use Rattle.std.proofs.Common.{◌≡◌, ℕ, suc, ◌+◌, ◌-◌, ◌≤◌, 
 use Rattle.std.specs.Prelude.{◌<◌, MatchOption}
 use Rattle.mr_set.specs.Elements.{with_element}
 use Rattle.mr_set.specs.Subsets.{IsSetOf, IsNext, IsLast}
-use Rattle.mr_set.specs.Enumeration.{IsFrom, run, IsNextFrom, IsLastFrom}
+use Rattle.mr_set.specs.Private.Enumeration.{IsFrom, run, IsNextFrom, IsLastFrom}
 use Rattle.mr_set.proofs.Sorted.{with_front}
 use Rattle.mr_set.proofs.Lexicographic.{from_tail, from_set, next_same, next_raised, last_raised, next_of, last_of}
 

@@ -9,7 +9,7 @@ use Rattle.std.proofs.lemmas.Cmp.{nat_list_cmp_total}
 use Rattle.std.proofs.lemmas.Map.Lookups.{exact_bytes}
 use Rattle.std.proofs.lemmas.Option.{same_Some, slice_get_within, slice_get-get_or}
 use Rattle.mr_set.specs.Subsets.{IsSetOf, IsBefore, IsFirst, IsNext, choose, list_cmp}
-use Rattle.mr_set.specs.Enumeration.{sets_from}
+use Rattle.mr_set.specs.Private.Enumeration.{sets_from}
 use Rattle.mr_set.specs.Places.{IsAllSets, IsPlaceOf}
 use Rattle.mr_set.specs.Matroid.{Presentation, IsFirstBasis}
 use Rattle.mr_set.proofs.Lexicographic.{irreflexive}

@@ -4,11 +4,11 @@ use Rattle.mr_set.specs.Subsets.{IsFirst, IsNext, choose}
 use Rattle.mr_set.specs.Places.{IsAllSets, IsPlaceOf}
 use Rattle.mr_set.specs.Matroid.{Presentation, IsFirstBasis, IsRank}
 
--- a set stands at one place
+-- a set stands at no more than one place
 abbrev pub SetHasOnePlace : Type 0
 SetHasOnePlace = (n : ℕ) (x : List ℕ) (j k : ℕ) → IsPlaceOf n x j → IsPlaceOf n x k → j ≡ k
 
--- one set of each size stands at a place
+-- at most one set of each size stands at a place
 abbrev pub PlaceHasOneSet : Type 0
 PlaceHasOneSet = (n : ℕ) (x y : List ℕ) (k : ℕ) → length x ≡ length y → IsPlaceOf n x k → IsPlaceOf n y k → x ≡ y
 
@@ -28,10 +28,10 @@ FirstSetStandsFirst = (n r : ℕ) (x : List ℕ) → IsFirst n r x → IsPlaceOf
 abbrev pub NextSetStandsNext : Type 0
 NextSetStandsNext = (n : ℕ) (x y : List ℕ) (k : ℕ) → IsPlaceOf n x k → IsNext n x y → IsPlaceOf n y (k + 1)
 
--- a matroid has one first basis
+-- a matroid has at most one first basis
 abbrev pub FirstBasisIsUnique : Type 0
 FirstBasisIsUnique = (m : Presentation) (b c : List ℕ) → IsFirstBasis m b → IsFirstBasis m c → b ≡ c
 
--- a set has one rank
+-- a set has at most one rank
 abbrev pub RankIsUnique : Type 0
 RankIsUnique = (m : Presentation) (x : List ℕ) (j k : ℕ) → IsRank m x j → IsRank m x k → j ≡ k

@@ -3,5 +3,4 @@ pub mod Subsets
 pub mod Places
 pub mod Matroid
 pub mod Laws
-pub mod Masks
-pub mod Enumeration
+pub mod Private

@@ -2,12 +2,12 @@
 
 ghost use Rattle.mr_set.specs.Laws.{SetHasOnePlace, PlaceHasOneSet, SetsCanBeListed, SetsAreCounted, FirstSetStandsFirst, NextSetStandsNext, FirstBasisIsUnique, RankIsUnique};
 
-/// A set stands at one place among the sets of its size.
+/// A set stands at no more than one place among the sets of its size.
 pub fn set_has_one_place()
     ensures { SetHasOnePlace }
 {}
 
-/// One set of each size stands at a place.
+/// At most one set of each size stands at a place.
 pub fn place_has_one_set()
     ensures { PlaceHasOneSet }
 {}
@@ -32,12 +32,12 @@ pub fn next_set_stands_next()
     ensures { NextSetStandsNext }
 {}
 
-/// A matroid has one first basis.
+/// A matroid has at most one first basis.
 pub fn first_basis_is_unique()
     ensures { FirstBasisIsUnique }
 {}
 
-/// A set has one rank.
+/// A set has at most one rank.
 pub fn rank_is_unique()
     ensures { RankIsUnique }
 {}

@@ -2,12 +2,14 @@
 #![tactic(auto)]
 
 pub mod laws;
+mod lists;
 mod order;
 mod places;
 mod set;
 mod sizes;
 mod subsets;
 
+pub use lists::{are_sets_of, is_set_of};
 pub use order::{elements, is_before};
 pub use places::{place_of, subset_at};
 pub use set::Set;

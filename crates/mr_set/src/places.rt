@@ -1,7 +1,7 @@
 ghost use Rattle.std.specs.Prelude.{◌≡◌, ◌-◌, ◌<◌, ◌≤◌, length, slice_get, Some};
 ghost use Rattle.mr_set.specs.Elements.{IsSet};
 ghost use Rattle.mr_set.specs.Subsets.{IsSetOf, choose};
-ghost use Rattle.mr_set.specs.Enumeration.{IsFrom, sets_from};
+ghost use Rattle.mr_set.specs.Private.Enumeration.{IsFrom, sets_from};
 ghost use Rattle.mr_set.specs.Places.{IsPlaceOf};
 
 use crate::sizes::combinations;

@@ -13,7 +13,7 @@ pub struct Set {
 impl Model for Set {
     ghost use Rattle.std.specs.Prelude.{ℕ, ◌<◌, ◌^◌, List};
     ghost use Rattle.mr_set.specs.Elements.{elements_below, mask_of};
-    ghost use Rattle.mr_set.specs.Masks.{mask_again};
+    ghost use Rattle.mr_set.specs.Private.Masks.{mask_again};
     ghost use Rattle.mr_set.specs.declared.TheConstants.{ELEMENTS};
 
     ghost Value = { List ℕ };
@@ -28,6 +28,7 @@ impl Model for Set {
 }
 
 impl Set {
+    /// The set without elements.
     pub fn empty() -> Set
         ensures { result ≡ [] }
     {
@@ -45,6 +46,7 @@ impl Set {
         }
     }
 
+    /// The number below 2^`ELEMENTS` whose bits are the elements.
     pub fn mask(&self) -> u64
         ensures value { result ≡ mask_of self.now }
         ensures elements { self.now ≡ elements_below ELEMENTS result }
@@ -54,6 +56,7 @@ impl Set {
         self.mask
     }
 
+    /// Whether `e`, which is below `ELEMENTS`, is an element.
     pub fn has(&self, e: u32) -> bool
         requires { e < ELEMENTS }
         ensures { IsTrue result ↔ Contains self.now e }
@@ -61,6 +64,7 @@ impl Set {
         self.mask >> e & 1 == 1
     }
 
+    /// The set with the element `e`, which may be one already.
     pub fn with(&self, e: u32) -> Set
         requires { e < ELEMENTS }
         ensures { result ≡ with_element e self.now }
@@ -70,6 +74,7 @@ impl Set {
         }
     }
 
+    /// The set without the element `e`, which may be none of it.
     pub fn without(&self, e: u32) -> Set
         requires { e < ELEMENTS }
         ensures { result ≡ without_element e self.now }
@@ -79,6 +84,7 @@ impl Set {
         }
     }
 
+    /// The elements of one of the two sets.
     pub fn union(&self, o: Set) -> Set
         ensures { result ≡ union self.now o }
     {
@@ -87,6 +93,7 @@ impl Set {
         }
     }
 
+    /// The elements of both sets.
     pub fn meet(&self, o: Set) -> Set
         ensures { result ≡ meet self.now o }
     {
@@ -95,6 +102,7 @@ impl Set {
         }
     }
 
+    /// The elements of this set that are none of the other.
     pub fn minus(&self, o: Set) -> Set
         ensures { result ≡ minus self.now o }
     {
@@ -103,12 +111,14 @@ impl Set {
         }
     }
 
+    /// Whether each element is one of the other set.
     pub fn within(&self, o: Set) -> bool
         ensures { IsTrue result ↔ IsSubset self.now o }
     {
         self.mask & !o.mask == 0
     }
 
+    /// The number of elements.
     pub fn len(&self) -> u32
         ensures { result ≡ length self.now }
     {

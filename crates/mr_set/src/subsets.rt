@@ -1,7 +1,7 @@
 ghost use Rattle.std.specs.Prelude.{◌≡◌, ◌+◌, ◌≤◌, ℕ, length, drop, MatchOption};
 ghost use Rattle.mr_set.specs.Elements.{numbers_below};
 ghost use Rattle.mr_set.specs.Subsets.{IsFirst, IsSetOf, IsNext, IsLast};
-ghost use Rattle.mr_set.specs.Enumeration.{IsFrom, IsNextFrom, IsLastFrom, run};
+ghost use Rattle.mr_set.specs.Private.Enumeration.{IsFrom, IsNextFrom, IsLastFrom, run};
 
 use crate::{ELEMENTS, Set, elements};
 

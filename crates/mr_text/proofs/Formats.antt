@@ -6,7 +6,8 @@ use Rattle.std.proofs.lemmas.Bool.Decides.{Decides-eqb}
 use Rattle.mr_set.specs.Elements.{is_element}
 use Rattle.mr_text.specs.Text.{Lacks, BeginsWith}
 use Rattle.mr_text.specs.Format.{FirstFault, grammar, size, Table, Format, done, line_of, IsLineOf, IsCutShort, IsLineFault, StandsFor}
-use Rattle.mr_text.specs.Tables.{never}
+use Rattle.mr_text.specs.Tables.{never, fixed}
+use Rattle.mr_text.specs.Private.Sharp.{IsSharpTable}
 
 -- where one of two tests answers yes, one of them does
 either : (s t : Bool) → s ≡ true → (s || t) ≡ false → ⊥
@@ -14,7 +15,7 @@ either true t h g = cc
 either false t h g = cc
 
 -- where neither does, the second does not
-right : (s t : Bool) → (s || t) ≡ false → t ≡ false
+pub right : (s t : Bool) → (s || t) ≡ false → t ≡ false
 right true t h = cc
 right false t h = h
 
@@ -98,3 +99,11 @@ front_of (done y) number bytes x rest next is = ([], sym is.1)
 front_of (line_of table due) number bytes x rest next (a, after, line, more) =
     let tail = front_of (due a) (number + 1) after x rest next more in
     (line.line ++ 10 ∷ tail.0, line.begins.text ∙ ap (λ w. line.line ++ 10 ∷ w) tail.1 ∙ sym (append_assoc line.line (10 ∷ tail.0) rest))
+
+-- a line of a fixed text stands for it
+pub fixed_stands : {M : Type 0} (text tail : List ℕ) → Lacks 10 text → IsLineOf (fixed {M = M} text) (text ++ 10 ∷ tail) tt tail
+fixed_stands text tail whole = record { line = text; begins = record { text = refl; whole = whole }; spelled = refl; fits = λ m h. h }
+
+-- it spells one value, and none is too large
+pub fixed_sharp : {M : Type 0} (text : List ℕ) → IsSharpTable (fixed {M = M} text)
+fixed_sharp text = record { one_value = λ line a b p q. refl; one_measure = λ a m n p q. absurd p }

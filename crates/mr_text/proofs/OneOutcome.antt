@@ -1,7 +1,7 @@
 -- A text stands for one value or has one first fault.
 use Rattle.std.proofs.Common.{◌≡◌, ℕ, ◌+◌, List, [], sym, ap, subst, ◌∙◌, inl, inr}
 use Rattle.mr_text.specs.Format.{FirstFault, grammar, size, Table, Format, done, line_of, IsLineOf, IsLineFault, IsFirstFault, StandsFor, IsTextOf, IsFirstFaultOf}
-use Rattle.mr_text.specs.Sharp.{IsSharpTable, IsSharp}
+use Rattle.mr_text.specs.Private.Sharp.{IsSharpTable, IsSharp}
 use Rattle.mr_text.proofs.Formats.{same_line, not_cut_short}
 
 -- a first line stands for one value

@@ -1,20 +1,19 @@
 ghost use Rattle.std.specs.Prelude.{◌≡◌, ◌≢◌, ◌↔◌, ◌+◌, ◌<◌, ◌≤◌, [], ℕ, IsTrue, IfOk, MatchOption, None, Contains, length, option_copied};
-ghost use Rattle.mr_frame.specs.Test.{IsAssignmentOf};
-ghost use Rattle.mr_nogood.specs.Checking.{named};
+ghost use Rattle.mr_nogood.specs.Private.Checking.{cited_row};
 ghost use Rattle.mr_nogood.specs.Follows.{in_slots};
 ghost use Rattle.mr_exchange.specs.declared.TheConstants.{SPLIT};
 ghost use Rattle.mr_exchange.specs.declared.event.Event.TheVariants.{Split};
 ghost use Rattle.mr_exchange.specs.Cubes.{cube_count};
 ghost use Rattle.mr_exchange.specs.State.{IsLive, pass_at, slots_of};
-ghost use Rattle.mr_exchange.specs.Events.{IsNodeOf, MayClaim, MayOpen, MayLook, MayPublish, MayJoin, IsAllowed};
+ghost use Rattle.mr_exchange.specs.Events.{IsNodeOf, MayClaim, MayOpen, MayLook, MayPublish, MayJoin, IsAllowedEvent};
 ghost use Rattle.mr_exchange.specs.Rank.{HasLeastRank};
 ghost use Rattle.mr_exchange.specs.Held.{state_of};
-ghost use Rattle.mr_exchange.specs.Deciding.{IsHit, Avoids, rank_past, only, MayDraw, MayUse, MayFill};
+ghost use Rattle.mr_exchange.specs.Private.Deciding.{IsHit, AvoidsSlots, rank_past, only, MayDraw, MayUse, MayFill};
 
 use super::{no_rows, row_in};
 use crate::pass::{PassData, is_short};
 use crate::{Event, LOOKS, State, Ticket, cube_at};
-use mr_assign::{Assign, POSITIONS, VALUES};
+use mr_assign::{Assign, VALUES};
 use mr_frame::Frame;
 use mr_nogood::{Cite, Row, follows};
 use std::alloc::{AllocError, Global};
@@ -23,7 +22,7 @@ impl State {
     // Whether the state allows the event.
     pub(super) fn allows(&self, frame: &Frame, e: &Event) -> Result<bool, AllocError>
         requires { self.now.frame ≡ frame.now }
-        ensures { IfOk result (λ b. IsTrue b ↔ IsAllowed (state_of self.now) e.now) }
+        ensures { IfOk result (λ b. IsTrue b ↔ IsAllowedEvent (state_of self.now) e.now) }
     {
         match e {
             Event::Claim { pass } => Ok(self.may_claim(*pass)),
@@ -90,7 +89,7 @@ impl State {
     }
 
     fn may_split(&self) -> bool
-        ensures { IsTrue result ↔ IsAllowed (state_of self.now) Split }
+        ensures { IsTrue result ↔ IsAllowedEvent (state_of self.now) Split }
     {
         match self.live(0) {
             Some(pass) => pass.made < self.limit,
@@ -144,7 +143,7 @@ fn is_node(frame: &Frame, depth: u32, cubes: &[u32], node: &Assign) -> bool
     requires cubes { (c : ℕ) → Contains cubes.now c → c < cube_count frame.now depth }
     ensures { IsTrue result ↔ IsNodeOf frame.now depth cubes.now node.now }
 {
-    if !is_assignment(frame, node) {
+    if !frame.is_assignment(node) {
         return false;
     }
     for c in cubes {
@@ -155,26 +154,9 @@ fn is_node(frame: &Frame, depth: u32, cubes: &[u32], node: &Assign) -> bool
     false
 }
 
-// Whether the map gives elements of the field to free positions, and to nothing else.
-fn is_assignment(frame: &Frame, a: &Assign) -> bool
-    ensures { IsTrue result ↔ IsAssignmentOf frame.now a.now }
-{
-    // The clauses of `words` say that there are no more positions.
-    let _words = a.words();
-    let count = frame.free();
-    let order = frame.field().order();
-    for p in 0..POSITIONS {
-        let v = a.get(p);
-        if v != 0 && (p >= count || v >= order) {
-            return false;
-        }
-    }
-    true
-}
-
 // Whether no short row of the known slots has its clause in the node.
 fn avoids(slots: &[Option<Row>], known: &[u32], node: &Assign) -> bool
-    ensures { IsTrue result ↔ Avoids (in_slots slots.now) known.now node.now }
+    ensures { IsTrue result ↔ AvoidsSlots (in_slots slots.now) known.now node.now }
 {
     for slot in known {
         if is_hit(row_in(slots, *slot), node) {
@@ -272,7 +254,7 @@ fn has_least_rank(given: &[Option<Row>], row: &Row) -> bool
 
 // One more than the rank of the row that is cited, or 0.
 fn past(given: &[Option<Row>], cite: &Cite) -> u64
-    ensures { result ≡ rank_past (named (in_slots given.now) cite.now) }
+    ensures { result ≡ rank_past (cited_row (in_slots given.now) cite.now) }
 {
     match cite {
         Cite::Slot(slot) => match row_in(given, *slot) {

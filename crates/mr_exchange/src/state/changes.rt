@@ -1,6 +1,6 @@
 ghost use Rattle.std.specs.Prelude.{◌≡◌, if◌then◌else◌, nat_lt, None, Some, IfOk, OnOk, OnErr};
 ghost use Rattle.mr_exchange.specs.declared.event.Event.TheVariants.{Claim, OpenNode, LookAt, Publish, Split, Join};
-ghost use Rattle.mr_exchange.specs.Events.{MayClaim, MayOpen, MayLook, MayPublish, MayJoin, IsAllowed, after, reply_of, seen};
+ghost use Rattle.mr_exchange.specs.Events.{MayClaim, MayOpen, MayLook, MayPublish, MayJoin, IsAllowedEvent, state_after, reply_of, seen};
 ghost use Rattle.mr_exchange.specs.Held.{state_of};
 
 use crate::pass::{PassData, is_short};
@@ -13,9 +13,9 @@ use std::mem;
 impl State {
     // What an event that is allowed changes.
     pub(super) fn change(&mut self, e: &Event) -> Result<Reply, AllocError>
-        requires { IsAllowed (state_of self.old) e.now }
+        requires { IsAllowedEvent (state_of self.old) e.now }
         ensures reply { IfOk result (λ reply. reply ≡ reply_of (state_of self.old) e.now) }
-        ensures after { OnOk result (state_of self.new ≡ after (state_of self.old) e.now) }
+        ensures after { OnOk result (state_of self.new ≡ state_after (state_of self.old) e.now) }
         ensures err { OnErr result (self.new ≡ self.old) }
     {
         match e {
@@ -31,7 +31,7 @@ impl State {
     fn claim(&mut self, k: u32) -> Result<Reply, AllocError>
         requires { MayClaim (state_of self.old) k }
         ensures reply { IfOk result (λ reply. reply ≡ reply_of (state_of self.old) (Claim k)) }
-        ensures after { OnOk result (state_of self.new ≡ after (state_of self.old) (Claim k)) }
+        ensures after { OnOk result (state_of self.new ≡ state_after (state_of self.old) (Claim k)) }
         ensures err { OnErr result (self.new ≡ self.old) }
     {
         let word = self.claim;
@@ -44,7 +44,7 @@ impl State {
     fn open_node(&mut self, k: u32, node: &Assign) -> Result<Reply, AllocError>
         requires { MayOpen (state_of self.old) k node.now }
         ensures reply { IfOk result (λ reply. reply ≡ reply_of (state_of self.old) (OpenNode k node.now)) }
-        ensures after { OnOk result (state_of self.new ≡ after (state_of self.old) (OpenNode k node.now)) }
+        ensures after { OnOk result (state_of self.new ≡ state_after (state_of self.old) (OpenNode k node.now)) }
         ensures err { OnErr result (self.new ≡ self.old) }
     {
         let word = self.ticket;
@@ -57,7 +57,7 @@ impl State {
     fn look(&mut self, k: u32) -> Result<Reply, AllocError>
         requires { MayLook (state_of self.old) k }
         ensures reply { IfOk result (λ reply. reply ≡ reply_of (state_of self.old) (LookAt k)) }
-        ensures after { OnOk result (state_of self.new ≡ after (state_of self.old) (LookAt k)) }
+        ensures after { OnOk result (state_of self.new ≡ state_after (state_of self.old) (LookAt k)) }
         ensures err { OnErr result (self.new ≡ self.old) }
     {
         let nodes = self.problem.nodes;
@@ -71,7 +71,7 @@ impl State {
     fn publish(&mut self, k: u32, slot: u32, row: &Row) -> Result<Reply, AllocError>
         requires { MayPublish (state_of self.old) k slot row.now }
         ensures reply { IfOk result (λ reply. reply ≡ reply_of (state_of self.old) (Publish k slot row.now)) }
-        ensures after { OnOk result (state_of self.new ≡ after (state_of self.old) (Publish k slot row.now)) }
+        ensures after { OnOk result (state_of self.new ≡ state_after (state_of self.old) (Publish k slot row.now)) }
         ensures err { OnErr result (self.new ≡ self.old) }
     {
         self.passes[k as usize].publish(slot)?;
@@ -80,9 +80,9 @@ impl State {
     }
 
     fn split(&mut self) -> Result<Reply, AllocError>
-        requires { IsAllowed (state_of self.old) Split }
+        requires { IsAllowedEvent (state_of self.old) Split }
         ensures reply { IfOk result (λ reply. reply ≡ reply_of (state_of self.old) Split) }
-        ensures after { OnOk result (state_of self.new ≡ after (state_of self.old) Split) }
+        ensures after { OnOk result (state_of self.new ≡ state_after (state_of self.old) Split) }
         ensures err { OnErr result (self.new ≡ self.old) }
     {
         let first = &self.passes[0];
@@ -97,7 +97,7 @@ impl State {
     fn join(&mut self, k: u32) -> Result<Reply, AllocError>
         requires { MayJoin (state_of self.old) k }
         ensures reply { IfOk result (λ reply. reply ≡ reply_of (state_of self.old) (Join k)) }
-        ensures after { OnOk result (state_of self.new ≡ after (state_of self.old) (Join k)) }
+        ensures after { OnOk result (state_of self.new ≡ state_after (state_of self.old) (Join k)) }
         ensures err { OnErr result (self.new ≡ self.old) }
     {
         let other = mem::replace(&mut self.passes[k as usize], PassData::spent(self.alloc));

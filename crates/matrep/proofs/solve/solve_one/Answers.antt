@@ -1,20 +1,23 @@
--- a file is read as its matroid or refused by its fault
-use Rattle.std.proofs.Common.{sym, ◌∙◌, refl}
-use Rattle.mr_field.specs.Gf.{gf2}
-use Rattle.matrep.specs.Texts.{refusal_text}
-use Rattle.matrep.specs.Result.{AllowsFile}
-use Rattle.matrep.specs.declared.outcome.Exit.TheVariants.{Refused}
-use Rattle.matrep.proofs.Ending.{outcome_is}
-use Rattle.matrep.proofs.Refused.{at_fault, outcome_solved}
+-- what is told of the matroid of the file, or of its refusal
+use Rattle.std.proofs.Common.{◌∙◌}
+use Rattle.mr_field.specs.Gf.{Gf}
+use Rattle.mr_file.specs.File.{IsFileOf}
+use Rattle.mr_file.specs.Reading.{IsFileRefusal}
+use Rattle.matrep.specs.Solving.{Solves}
+use Rattle.matrep.specs.Result.{IsFileFault, OfFile}
+use Rattle.matrep.proofs.Solved.{solved_file}
+use Rattle.matrep.proofs.Inputs.{input_refused, refused_as_file, over_field}
 use Rattle.matrep.proofs.solve.solve_one.Goals as goal
 
-pub unreachable-requires : goal.unreachable-requires
-unreachable-requires c = c.in_default.ensures.none refl (gf2, sym (c.from.ensures ∙ c.requires.field))
-
 pub returns-in-Ok : goal.returns-in-Ok
-returns-in-Ok c = outcome_solved (λ o. o.exit) (λ o. o.text) c.args.bytes.now c.in-Ok.m c.answer.result c.in-Ok.ensures.ok c.answer.ensures
+returns-in-Ok c =
+    solved_file (λ o. o.exit) (λ o. o.text) c.in-Some.field c.args.q c.args.nodes c.args.split c.args.orbits c.args.bytes.now c.in-Ok.m c.solve_matroid.result (c.in-Some.ensures.order ∙ c.from.ensures) c.in-Ok.ensures.ok c.solve_matroid.ensures
 
-pub returns-in-Some-fault_of : goal.returns-in-Some-fault_of
-returns-in-Some-fault_of c =
-    outcome_is (λ o. o.exit) (λ o. o.text) (AllowsFile c.args.bytes.now) c.refused.result (Refused c.in-Some-fault_of.fault) (refusal_text c.in-Some-fault_of.fault) c.refused.ensures.exit c.refused.ensures.text
-    (at_fault c.args.bytes.now c.in-Some-fault_of.fault c.in-Err.fault c.in-Some-fault_of.ensures c.in-Err.ensures.refusal, refl)
+pub returns-in-Err : goal.returns-in-Err
+returns-in-Err c =
+    let f = c.in-Some.field in
+    let bytes = c.args.bytes.now in
+    let solves = Solves f c.args.nodes c.args.split c.args.orbits in
+    over_field (λ (g : Gf) o. OfFile bytes (Solves g c.args.nodes c.args.split c.args.orbits) o.exit o.text) f c.args.q c.refused_file.result (c.in-Some.ensures.order ∙ c.from.ensures)
+    (input_refused (λ o. o.exit) (λ o. o.text) (IsFileOf bytes) (IsFileFault (IsFileRefusal bytes)) solves c.refused_file.result
+    (refused_as_file (λ o. o.exit) (λ o. o.text) (IsFileRefusal bytes) c.in-Err.fault c.refused_file.result c.in-Err.ensures.refusal c.refused_file.ensures))

@@ -1,7 +1,7 @@
 -- position by position
 use Rattle.std.proofs.Common.{sym, subst, arith}
 use Rattle.mr_frame.specs.Frame.{IsExchange}
-use Rattle.mr_class.specs.Scaling.{IsReadTo}
+use Rattle.mr_class.specs.Private.Scaling.{IsReadTo}
 use Rattle.mr_class.proofs.Reading.{place-edge, edge-not_zero, read_none}
 use Rattle.mr_class.proofs.scale.read_form.Goals as goal
 

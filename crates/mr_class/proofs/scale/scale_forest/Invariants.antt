@@ -1,7 +1,7 @@
 -- the entries at the edges before this one are 1
 use Rattle.std.proofs.Common.{take}
-use Rattle.mr_linear.specs.Reduction.{Continues}
-use Rattle.mr_class.specs.Scaling.{IsScaledOn}
+use Rattle.mr_linear.specs.Private.Reduction.{Continues}
+use Rattle.mr_class.specs.Private.Scaling.{IsScaledOn}
 use Rattle.mr_class.proofs.scale.scale_forest.Given as goal
 
 abbrev pub invariant-loop-k : goal.invariant-loop-k

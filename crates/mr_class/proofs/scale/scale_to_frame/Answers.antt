@@ -4,7 +4,7 @@ use Rattle.mr_graph.specs.declared.edge.Edge.{Edge}
 use Rattle.mr_graph.specs.Forest.{HasEdge}
 use Rattle.mr_graph.specs.Order.{IsForestOrder}
 use Rattle.mr_frame.specs.Frame.{IsExchange}
-use Rattle.mr_class.specs.Scaling.{IsScaledOn}
+use Rattle.mr_class.specs.Private.Scaling.{IsScaledOn}
 use Rattle.mr_class.proofs.Sequence.{basis-columns_independent, started, order-exchanges, forest-scaled, all_led, led-field, ended}
 use Rattle.mr_class.proofs.scale.scale_to_frame.Goals as goal
 

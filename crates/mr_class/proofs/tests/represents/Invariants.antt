@@ -1,7 +1,7 @@
 -- each set before this one agrees, and its weight falls
 use Rattle.std.proofs.Common.{◌↔◌}
 use Rattle.mr_set.specs.Subsets.{IsSetOf}
-use Rattle.mr_set.specs.Enumeration.{weight}
+use Rattle.mr_set.specs.Private.Enumeration.{weight}
 use Rattle.mr_set.specs.Matroid.{IsIndependent}
 use Rattle.mr_matroid.proofs.Walk.{Seen}
 use Rattle.mr_linear.specs.Matrix.{AreIndependent}

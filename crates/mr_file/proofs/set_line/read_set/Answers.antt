@@ -1,7 +1,7 @@
 -- A set with elements, and the empty set.
 use Rattle.std.proofs.Common.{◌≡◌, sym, subst, ◌∙◌, Some, arith}
 use Rattle.std.specs.Prelude.{◌↔◌, List, ℕ}
-use Rattle.mr_file.specs.Numbers.{SpellsSet}
+use Rattle.mr_file.specs.Private.Numbers.{SpellsSet}
 use Rattle.std.specs.Cmp.Lexicographic.{same_text}
 use Rattle.mr_file.proofs.Sets.{set_line, empty_line}
 use Rattle.mr_file.proofs.set_line.read_set.Goals as goal

@@ -1,7 +1,7 @@
 -- a label takes the number of its first place, or the next number
 use Rattle.std.proofs.Common.{rules, ℕ, List, ◌≡◌, ◌≢◌, ◌<◌, ◌+◌, ap, sym, subst, ◌∙◌, length, get_or, take, arith}
 use Rattle.std.proofs.lemmas.List.{get_or-take, get_or_default, length-take-le}
-use Rattle.mr_graph.specs.Components.{IsNumbered}
+use Rattle.mr_graph.specs.Private.Components.{IsNumbered}
 use Rattle.mr_graph.proofs.Numbering.{numbered_old, numbered_new}
 use Rattle.mr_graph.proofs.components.number_next.Goals as goal
 

@@ -1,6 +1,6 @@
 -- the labels so far are numbered
 use Rattle.std.proofs.Common.{◌≡◌, length}
-use Rattle.mr_graph.specs.Components.{IsNumbered}
+use Rattle.mr_graph.specs.Private.Components.{IsNumbered}
 use Rattle.mr_graph.proofs.components.numbered.Given as goal
 
 abbrev pub invariant-loop-place : goal.invariant-loop-place

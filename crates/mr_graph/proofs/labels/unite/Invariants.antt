@@ -1,6 +1,6 @@
 -- the labels so far are changed, the others still as they were
 use Rattle.std.proofs.Common.{◌≡◌, ℕ, ◌<◌, ◌≤◌, get_or}
-use Rattle.mr_graph.specs.Labels.{relabelled}
+use Rattle.mr_graph.specs.Private.Labels.{relabelled}
 use Rattle.mr_graph.proofs.labels.unite.Given as goal
 
 abbrev pub invariant-loop-label : goal.invariant-loop-label

@@ -1,7 +1,7 @@
 -- The elements from the least one on.
 use Rattle.std.proofs.Common.{◌≡◌, ◌++◌, List, ℕ, [], sym, subst, refl, arith, map}
 use Rattle.std.specs.Prelude.{decimal}
-use Rattle.mr_log.specs.Words.{IsSetFrom}
+use Rattle.mr_log.specs.Private.Words.{IsSetFrom}
 use Rattle.mr_log.proofs.Clauses.{untrue}
 use Rattle.mr_log.proofs.Cites.{no_elements, no_first, number_out, no_more, element_read}
 use Rattle.mr_log.proofs.cite.+read_elements.Goals as goal

@@ -1,7 +1,7 @@
 -- A set of some elements, and the empty set.
 use Rattle.std.proofs.Common.{◌≡◌, ◌++◌, List, ℕ, subst, sym, arith}
 use Rattle.mr_set.specs.Subsets.{IsSetOf}
-use Rattle.mr_log.specs.Words.{set_words}
+use Rattle.mr_log.specs.Private.Words.{set_words}
 use Rattle.mr_log.proofs.Cites.{set_read, empty_read}
 use Rattle.mr_log.proofs.cite.read_set.Goals as goal
 

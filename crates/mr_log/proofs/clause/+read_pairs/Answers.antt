@@ -1,6 +1,6 @@
 -- The pairs from a position on.
 use Rattle.std.proofs.Common.{◌≡◌, ◌∷◌, ◌++◌, List, ℕ, sym, subst, ap, ◌∙◌, arith, codes}
-use Rattle.mr_log.specs.Words.{IsClauseFrom, pair_words}
+use Rattle.mr_log.specs.Private.Words.{IsClauseFrom, pair_words}
 use Rattle.mr_log.proofs.Clauses.{agrees, differs, untrue, empty_clause, not_a_pair, pair_out, no_others, with_pair}
 use Rattle.mr_log.proofs.clause.+read_pairs.Goals as goal
 

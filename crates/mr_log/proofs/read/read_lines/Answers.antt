@@ -2,9 +2,9 @@
 use Rattle.std.proofs.Common.{List, ℕ, length, sym, subst, ◌∙◌}
 use Rattle.std.proofs.lemmas.Bool.Decides.{Decides-eqb}
 use Rattle.mr_text.specs.Format.{StandsFor}
+use Rattle.mr_file.proofs.Making.{empty}
 use Rattle.mr_log.specs.Log.{log_format}
-use Rattle.mr_log.specs.Stages.{found_log}
-use Rattle.mr_log.proofs.Making.{empty}
+use Rattle.mr_log.specs.Private.Stages.{found_log}
 use Rattle.mr_log.proofs.read.read_lines.Goals as goal
 
 pub returns-then-is_empty : goal.returns-then-is_empty

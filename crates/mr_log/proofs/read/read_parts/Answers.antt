@@ -3,9 +3,9 @@ use Rattle.std.proofs.Common.{arith}
 use Rattle.mr_text.specs.Format.{IsFirstFault}
 use Rattle.mr_file.specs.Reading.{listing, whole_file}
 use Rattle.mr_file.proofs.Whole.{file_read}
-use Rattle.mr_log.specs.Stages.{from_count, from_file}
-use Rattle.mr_log.proofs.Outcomes.{named, file_faults}
-use Rattle.mr_log.proofs.LogText.{numbers_within}
+use Rattle.mr_file.proofs.AfterFile.{file_faults, numbers_within}
+use Rattle.mr_log.specs.Private.Stages.{from_count, from_file}
+use Rattle.mr_log.proofs.Outcomes.{named}
 use Rattle.mr_log.proofs.Making.{after_file}
 use Rattle.mr_log.proofs.read.read_parts.Goals as goal
 

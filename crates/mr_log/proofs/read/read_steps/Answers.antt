@@ -7,7 +7,7 @@ use Rattle.mr_text.proofs.Leads.{Leads}
 use Rattle.mr_file.specs.Reading.{listing}
 use Rattle.mr_nogood.specs.declared.row.Row.{Row}
 use Rattle.mr_log.specs.Lines.{step_table, end_table}
-use Rattle.mr_log.specs.Stages.{from_steps}
+use Rattle.mr_log.specs.Private.Stages.{from_steps}
 use Rattle.mr_log.proofs.Outcomes.{line_named, Start, steps_on, steps_fault, steps_end, end_fault, end_value}
 use Rattle.mr_log.proofs.read.read_steps.Goals as goal
 

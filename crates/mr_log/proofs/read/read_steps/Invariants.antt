@@ -2,7 +2,7 @@
 use Rattle.std.proofs.Common.{◌≡◌, ◌+◌, ◌-◌, ◌<◌, ◌^◌, length}
 use Rattle.mr_text.proofs.Leads.{Leads}
 use Rattle.mr_file.specs.Reading.{listing}
-use Rattle.mr_log.specs.Stages.{from_steps}
+use Rattle.mr_log.specs.Private.Stages.{from_steps}
 use Rattle.mr_log.proofs.Outcomes.{Start}
 use Rattle.mr_log.proofs.read.read_steps.Given as goal
 

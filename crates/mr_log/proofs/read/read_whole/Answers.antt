@@ -1,7 +1,7 @@
 -- What the lines stand for is within the limits, and its matroid is made.
 use Rattle.std.proofs.Common.{arith}
 use Rattle.mr_file.specs.Reading.{listing}
-use Rattle.mr_log.specs.Stages.{found_log}
+use Rattle.mr_log.specs.Private.Stages.{found_log}
 use Rattle.mr_log.proofs.Making.{text_read, few_nonbases, with_matroid}
 use Rattle.mr_log.proofs.read.read_whole.Goals as goal
 

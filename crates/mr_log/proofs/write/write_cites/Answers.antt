@@ -2,7 +2,7 @@
 use Rattle.std.proofs.Common.{◌<◌, ◌++◌, length, map, take, ap, sym, ◌∙◌, arith, append_assoc}
 use Rattle.mr_nogood.specs.declared.row.Cite.{Cite}
 use Rattle.mr_log.specs.Lines.{cite_text}
-use Rattle.mr_log.specs.Written.{gap}
+use Rattle.mr_log.specs.Private.Written.{gap}
 use Rattle.mr_log.proofs.Pieces.{push, cites_more}
 use Rattle.mr_log.proofs.write.write_cites.Goals as goal
 

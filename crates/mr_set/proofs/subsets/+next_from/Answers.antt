@@ -1,5 +1,5 @@
 use Rattle.std.proofs.Common.{◌-◌, length, sym, subst, List, ℕ, drop, arith}
-use Rattle.mr_set.specs.Enumeration.{IsNextFrom}
+use Rattle.mr_set.specs.Private.Enumeration.{IsNextFrom}
 use Rattle.mr_set.proofs.Steps.{element_small, rest_from, step_same, step_raised, step_last}
 use Rattle.mr_set.proofs.subsets.+next_from.Goals as goal
 

@@ -4,7 +4,8 @@ use Rattle.mr_exchange.specs.contracts.state.State.{the_view}
 use Rattle.mr_exchange.specs.declared.event.Event.TheVariants.{Join}
 use Rattle.mr_exchange.specs.State.{Pass}
 use Rattle.mr_exchange.specs.Events.{MayJoin}
-use Rattle.mr_exchange.specs.Held.{Held, state_of, IsHeld}
+use Rattle.mr_exchange.specs.Held.{Held, state_of}
+use Rattle.mr_exchange.specs.Private.Held.{IsHeld}
 use Rattle.mr_exchange.proofs.Bounds.{small_words, few_claim_ends}
 use Rattle.mr_exchange.proofs.Changing.{as_read, read_pass, first_read, join_same, join_undone, then_held}
 use Rattle.mr_exchange.proofs.state.State.join.Goals as goal

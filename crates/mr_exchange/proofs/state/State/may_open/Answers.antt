@@ -1,6 +1,6 @@
 -- what was looked at is what is asked of the pass
 use Rattle.mr_exchange.specs.contracts.state.State.{the_view}
-use Rattle.mr_exchange.specs.Deciding.{MayUse}
+use Rattle.mr_exchange.specs.Private.Deciding.{MayUse}
 use Rattle.mr_exchange.proofs.Allowing.{opens, opened_by, there, back, cubes_within}
 use Rattle.mr_exchange.proofs.state.State.may_open.Goals as goal
 

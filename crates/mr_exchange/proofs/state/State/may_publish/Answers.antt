@@ -4,7 +4,7 @@ use Rattle.std.proofs.lemmas.Result.{IfOk-weaker}
 use Rattle.mr_exchange.specs.contracts.state.State.{the_view}
 use Rattle.mr_exchange.specs.Events.{MayPublish}
 use Rattle.mr_exchange.specs.Held.{state_of}
-use Rattle.mr_exchange.specs.Deciding.{MayFill}
+use Rattle.mr_exchange.specs.Private.Deciding.{MayFill}
 use Rattle.mr_exchange.proofs.Allowing.{publishes, published_by, there, back}
 use Rattle.mr_exchange.proofs.state.State.may_publish.Goals as goal
 

@@ -4,7 +4,7 @@ use Rattle.mr_nogood.specs.Follows.{in_slots, Rows, Follows}
 use Rattle.mr_exchange.specs.declared.ticket.Ticket.{Ticket}
 use Rattle.mr_exchange.specs.State.{Pass, slots_of}
 use Rattle.mr_exchange.specs.Rank.{HasLeastRank}
-use Rattle.mr_exchange.specs.Deciding.{only}
+use Rattle.mr_exchange.specs.Private.Deciding.{only}
 use Rattle.mr_exchange.proofs.state.allowed.may_fill.Goals as goal
 
 pub returns : goal.returns

@@ -1,6 +1,8 @@
--- the cells before this one are copied
-use Rattle.mr_frame.proofs.Copying.{IsCopiedTo}
+-- the rows before this one are copied
+use Rattle.std.proofs.Common.{◌*◌}
+use Rattle.mr_linear.specs.declared.elimination.TheConstants.{STRIDE}
+use Rattle.mr_frame.specs.Private.Filling.{IsCopiedTo}
 use Rattle.mr_frame.proofs.frame.Frame.part.Given as goal
 
-abbrev pub invariant-loop-k : goal.invariant-loop-k
-invariant-loop-k l = IsCopiedTo l.self l.a l.rows l.columns l.w l.k
+abbrev pub invariant-loop-row : goal.invariant-loop-row
+invariant-loop-row l = IsCopiedTo l.self l.a l.rows l.columns l.w (l.row * STRIDE)

@@ -1,7 +1,7 @@
 -- the numbers of the forest's labels, rows and columns apart
 use Rattle.std.proofs.Common.{ℕ, List, ◌≡◌, ap, subst, ◌∙◌, length, take, drop}
 use Rattle.std.proofs.lemmas.List.{take_rest}
-use Rattle.mr_graph.specs.Components.{IsNumbered}
+use Rattle.mr_graph.specs.Private.Components.{IsNumbered}
 use Rattle.mr_graph.proofs.Numbering.{components_numbered}
 use Rattle.mr_graph.proofs.bipartite.Bipartite.components.Goals as goal
 

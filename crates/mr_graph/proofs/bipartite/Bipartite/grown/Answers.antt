@@ -2,7 +2,7 @@
 use Rattle.std.proofs.Common.{List, ◌≡◌, ◌+◌, ap, sym, subst, ◌∙◌, arith}
 use Rattle.mr_graph.specs.declared.edge.Edge.{Edge}
 use Rattle.mr_graph.specs.Graph.{Graph}
-use Rattle.mr_graph.specs.Grown.{IsGrown}
+use Rattle.mr_graph.specs.Private.Grown.{IsGrown}
 use Rattle.mr_graph.proofs.Growth.{grown_none}
 use Rattle.mr_graph.proofs.bipartite.Bipartite.grown.Goals as goal
 

@@ -1,5 +1,5 @@
 -- the first forest as far as this place
-use Rattle.mr_graph.specs.Grown.{IsGrown}
+use Rattle.mr_graph.specs.Private.Grown.{IsGrown}
 use Rattle.mr_graph.proofs.bipartite.Bipartite.grown.Given as goal
 
 abbrev pub invariant-loop-row : goal.invariant-loop-row

@@ -2,7 +2,7 @@
 use Rattle.std.proofs.Common.{List, ◌≡◌, ◌+◌, ◌++◌, [], ◌∷◌, ap, sym, subst, arith}
 use Rattle.std.proofs.lemmas.Result.{on_ok_weaker}
 use Rattle.mr_graph.specs.Graph.{Graph, IsEdge}
-use Rattle.mr_graph.specs.Grown.{IsGrown}
+use Rattle.mr_graph.specs.Private.Grown.{IsGrown}
 use Rattle.mr_graph.specs.declared.edge.Edge.{Edge}
 use Rattle.mr_graph.proofs.Growth.{grown_united, grown_more}
 use Rattle.mr_graph.proofs.bipartite.Bipartite.take.Goals as goal

@@ -1,0 +1,73 @@
+ghost use Rattle.std.specs.Prelude.{◌≤◌, ℕ, sum_by, IfOk};
+ghost use Rattle.mr_nogood.specs.Follows.{in_slots};
+ghost use Rattle.mr_exchange.specs.declared.TheConstants.{NODES, SPLIT};
+ghost use Rattle.mr_exchange.specs.Cubes.{IsProblemOf};
+ghost use Rattle.mr_exchange.specs.Right.{AreAnswers};
+ghost use Rattle.mr_pool.specs.Answers.{AreFirst, IsSearched, number_found};
+ghost use Rattle.matrep.specs.Private.Searched.{IsSearchedTo};
+
+use mr_assign::AssignList;
+use mr_exchange::Problem;
+use mr_frame::Frame;
+use mr_log::Log;
+use mr_merge::{Merged, merge};
+use mr_pool::{PoolAnswer, PoolStop, run_one};
+use std::alloc::{AllocError, Global};
+
+/// What a search over a frame ends with: all forms, in order, of which there are some; a log that refutes that there is
+/// one; or that as many nodes were opened as may be.
+#[derive(Drop)]
+pub enum Searched {
+    Forms(AssignList),
+    Refuted(Log),
+    Stopped { opened: u32 },
+}
+
+/// Searches over a frame with one worker.
+pub fn search_frame(
+    alloc: Global,
+    frame: &Frame,
+    nodes: u32,
+    split: u32,
+) -> Result<Searched, AllocError>
+    requires few_split { split ≤ SPLIT }
+    requires some_nodes { 1 ≤ nodes }
+    requires few_nodes { nodes ≤ NODES }
+    ensures { IfOk result (IsSearchedTo frame.now nodes split) }
+{
+    let problem = Problem::of(frame, split, nodes);
+    match run_one(alloc, frame, problem) {
+        Ok(answer) => merge_answers(alloc, frame, problem, &answer),
+        Err(stop) => match stop {
+            PoolStop::Stopped { closed } => Ok(Searched::Stopped {
+                opened: closed.opened(),
+            }),
+            PoolStop::Memory => Err(AllocError),
+        },
+    }
+}
+
+// What the right answers of all cubes are merged to.
+fn merge_answers(
+    alloc: Global,
+    frame: &Frame,
+    problem: Problem,
+    answer: &PoolAnswer,
+) -> Result<Searched, AllocError>
+    requires problem { IsProblemOf frame.now problem }
+    requires answers { AreAnswers frame.now problem (in_slots answer.now.closed.rows) answer.now.answers }
+    requires first { AreFirst frame.now problem answer.now.answers }
+    requires found { sum_by number_found answer.now.answers ≤ answer.now.closed.opened }
+    requires closed { IsSearched frame.now problem answer.now.closed }
+    ensures { (split : ℕ) → IfOk result (IsSearchedTo frame.now problem.nodes split) }
+{
+    // The clauses of `opened` say that the rows are those of a sound state.
+    let _opened = answer.closed.opened();
+    match merge(alloc, frame, problem, &answer.answers, &answer.closed) {
+        Err(e) => Err(e),
+        Ok(merged) => match merged {
+            Merged::Forms(forms) => Ok(Searched::Forms(forms)),
+            Merged::Refuted(log) => Ok(Searched::Refuted(log)),
+        },
+    }
+}

@@ -1,6 +1,0 @@
--- The sets that are left grow fewer.
-use Rattle.std.proofs.Common.{length}
-use Rattle.mr_exchange.proofs.tests.+is_before_all.Given as goal
-
-abbrev pub decreases-is_before_all : goal.decreases-is_before_all
-decreases-is_before_all l = length l.others.now

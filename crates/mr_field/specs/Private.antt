@@ -1,0 +1,2 @@
+-- Definitions that private contracts and proofs use, and no public contract.
+pub mod Order

@@ -1,0 +1,157 @@
+-- The first set that fails for each value of a position.
+use Rattle.std.proofs.Common.{ℕ, ◌+◌, ◌<◌, ◌≤◌, ◌≡◌, ◌≢◌, ◌↔◌, Bool, true, false, List, [], length, get_or, set, Option, Some, None, refl, sym, ap, subst, ◌∙◌, ⊎_elim, arith, length-set, get_or-set_same, get_or-set_other}
+use Rattle.std.specs.Prelude.{Contains, MatchOption}
+use Rattle.std.proofs.lemmas.Bool.{cases_eq, both_ways}
+use Rattle.mr_set.specs.Elements.{is_element}
+use Rattle.mr_set.proofs.Members.{Contains-from_element, is_element-from_Contains}
+use Rattle.mr_frame.specs.Frame.{Framed}
+use Rattle.mr_frame.specs.Test.{Needs, NeedsLast, SetFails}
+use Rattle.mr_frame.specs.Parts.{NoneFailsLast, IsFirstFailingLast}
+use Rattle.mr_frame.specs.Private.Parts.{first_of}
+use Rattle.std.specs.Option.{is_some}
+use Rattle.std.specs.List.Sorted.{IsStrictlySortedBy}
+use Rattle.std.proofs.Common.{not, true≢false}
+use Rattle.std.proofs.lemmas.List.{get_or_default}
+use Rattle.mr_field.specs.Gf.{order}
+use Rattle.mr_field.proofs.Lookups.{order-le}
+use Rattle.mr_set.specs.Subsets.{IsSetOf, IsBefore, list_cmp}
+use Rattle.std.proofs.lemmas.Bool.{cases_lt}
+use Rattle.std.proofs.lemmas.Cmp.{nat_list_cmp_total}
+use Rattle.std.proofs.lemmas.List.Elements.{Contains-get_or}
+use Rattle.std.proofs.lemmas.Option.{slice_get-get_or}
+use Rattle.mr_set.proofs.Ordered.{later_is_greater, not_before_itself, not_both_ways}
+
+-- the first values are looked at
+pub record MarkedTo (values x : List ℕ) (old now : List (Option (List ℕ))) (i : ℕ) : Type 0 where
+  pub len : length now ≡ 9
+  pub done : (v : ℕ) → v < i → get_or now v None ≡ first_of (get_or old v None) (is_element values v) x
+  pub left : (v : ℕ) → i ≤ v → get_or now v None ≡ get_or old v None
+
+module _ (values x : List ℕ) (old now : List (Option (List ℕ))) (i : ℕ) (to : MarkedTo values x old now i) where
+  -- the value's set stays
+  pub marked-same : first_of (get_or old i None) (is_element values i) x ≡ get_or now i None → MarkedTo values x old now (i + 1)
+  marked-same same = record {
+    len = to.len;
+    done = λ v l. ⊎_elim
+        (λ (p : v ≡ i). subst (λ (k : ℕ). get_or now k None ≡ first_of (get_or old k None) (is_element values k) x) (sym p) (sym same))
+        (λ (o : v ≢ i). to.done v (omega arith))
+        (cases_eq v i);
+    left = λ v l. to.left v (omega arith);
+  }
+
+  -- it has a set
+  pub marked-some : (y : List ℕ) → get_or now i None ≡ Some y → MarkedTo values x old now (i + 1)
+  marked-some y is = marked-same (ap (λ o. first_of o (is_element values i) x) (sym (to.left i (omega arith)) ∙ is) ∙ sym is)
+
+  -- it has none, and the set doesn't fail with it
+  pub marked-out : get_or now i None ≡ None → is_element values i ≡ false → MarkedTo values x old now (i + 1)
+  marked-out is out = marked-same (ap (λ o. first_of o (is_element values i) x) (sym (to.left i (omega arith)) ∙ is) ∙ ap (λ b. first_of None b x) out ∙ sym is)
+
+  -- it has none, and the set fails with it
+  pub marked-set : i < 9 → get_or now i None ≡ None → is_element values i ≡ true → MarkedTo values x old (set now i (Some x)) (i + 1)
+  marked-set small is has = record {
+    len = length-set now i (Some x) ∙ to.len;
+    done = λ v l. ⊎_elim
+        (λ (p : v ≡ i). subst (λ (k : ℕ). get_or (set now i (Some x)) k None ≡ first_of (get_or old k None) (is_element values k) x) (sym p)
+        (get_or-set_same now i (Some x) None (let n = to.len in omega arith) ∙ sym (ap (λ o. first_of o (is_element values i) x) (sym (to.left i (omega arith)) ∙ is) ∙ ap (λ b. first_of None b x) has)))
+        (λ (o : v ≢ i). get_or-set_other now i v (Some x) None o ∙ to.done v (omega arith))
+        (cases_eq v i);
+    left = λ v l. get_or-set_other now i v (Some x) None (omega arith) ∙ to.left v (omega arith);
+  }
+
+-- a value without a set
+pub read-none : (xs : List (Option (List ℕ))) (v : ℕ) (d : Option (List ℕ)) (b : Bool) → v < length xs → is_some (get_or xs v d) ≡ not b → b ≡ true → get_or xs v None ≡ None
+read-none xs v d b l is flag = by_case (get_or xs v None) (ap is_some (get_or_default xs v None d l) ∙ is ∙ ap not flag)
+  where
+    by_case : (o : Option (List ℕ)) → is_some o ≡ false → o ≡ None
+    by_case None h = refl
+    by_case (Some y) h = absurd (true≢false h)
+
+-- a value with one
+pub read-some : (xs : List (Option (List ℕ))) (v : ℕ) (d : Option (List ℕ)) (b : Bool) → v < length xs → is_some (get_or xs v d) ≡ not b → b ≡ false → (y : List ℕ) × (get_or xs v None ≡ Some y)
+read-some xs v d b l is flag = by_case (get_or xs v None) (ap is_some (get_or_default xs v None d l) ∙ is ∙ ap not flag)
+  where
+    by_case : (o : Option (List ℕ)) → is_some o ≡ true → (y : List ℕ) × (o ≡ Some y)
+    by_case None h = absurd (true≢false (sym h))
+    by_case (Some y) h = (y, refl)
+
+-- no set before this place fails
+abbrev pub NoneFailsBefore : Framed → List ℕ → List (List ℕ) → ℕ → Type 0
+NoneFailsBefore f a sets i = (k : ℕ) → k < i → ¬ (SetFails f a (get_or sets k []))
+
+-- for each value the first set among those before this place that fails with it
+pub record FirstsTo (f : Framed) (node : List ℕ) (p : ℕ) (sets : List (List ℕ)) (first : List (Option (List ℕ))) (i : ℕ) : Type 0 where
+  pub len : length first ≡ 9
+  pub firsts : (v : ℕ) → v < order f.field → MatchOption (get_or first v None) (NoneFailsBefore f (set node p v) sets i) (IsFirstFailingLast f (set node p v) p)
+
+-- before the first set
+pub firsts-none : (f : Framed) (node : List ℕ) (p : ℕ) (sets : List (List ℕ)) (first : List (Option (List ℕ))) → length first ≡ 9 → ((v : ℕ) → v < 9 → get_or first v None ≡ None) → FirstsTo f node p sets first 0
+firsts-none f node p sets first len none = record {
+  len = len;
+  firsts = λ v l.
+      let small = order-le f.field in
+      subst (λ o. MatchOption o (NoneFailsBefore f (set node p v) sets 0) (IsFirstFailingLast f (set node p v) p)) (sym (none v (omega arith))) (λ k kl. absurd (omega arith));
+}
+
+module _ (f : Framed) (node : List ℕ) (p : ℕ) (sets : List (List ℕ)) (sorted : IsStrictlySortedBy list_cmp sets)
+    (exactly : (x : List ℕ) → Contains sets x ↔ (IsSetOf f.matroid.elements f.matroid.rank x × NeedsLast f x p)) where
+  -- where none of the listed sets fails, none does
+  none_fails : (a : List ℕ) → NoneFailsBefore f a sets (length sets) → NoneFailsLast f a p
+  none_fails a none x needs fails =
+      let (k, lt, is) = (exactly x).1 (fails.size, needs) in
+      none k lt (subst (SetFails f a) (sym (get_or_default sets k [] x lt ∙ is)) fails)
+
+  -- the set at this place is the first
+  first_fails : (a : List ℕ) (i : ℕ) → i < length sets → NoneFailsBefore f a sets i → SetFails f a (get_or sets i []) → IsFirstFailingLast f a p (get_or sets i [])
+  first_fails a i within none fails = record {
+    needs = ((exactly (get_or sets i [])).0 (Contains-get_or sets i [] within)).1;
+    fails = fails;
+    least = λ y needs other before.
+        let (k, lt, is) = (exactly y).1 (other.size, needs) in
+        let at : get_or sets k [] ≡ y = get_or_default sets k [] y lt ∙ is in
+        ⊎_elim
+        (λ (low : k < i). none k low (subst (SetFails f a) (sym at) other))
+        (λ (high : i ≤ k). ⊎_elim
+        (λ (same : k ≡ i). not_before_itself nat_list_cmp_total y (subst (IsBefore y) (sym (ap (λ (j : ℕ). get_or sets j []) same) ∙ at) before))
+        (λ (differs : k ≢ i). not_both_ways nat_list_cmp_total (get_or sets i []) y
+        (later_is_greater list_cmp sets i k (get_or sets i []) y sorted (slice_get-get_or sets i [] within) (slice_get-get_or sets k [] lt ∙ ap Some at) (omega arith)) before)
+        (cases_eq k i))
+        (cases_lt k i);
+  }
+
+  -- one set more
+  pub firsts-more : (first now : List (Option (List ℕ))) (values x : List ℕ) (i : ℕ) → FirstsTo f node p sets first i → i < length sets → x ≡ get_or sets i [] → length now ≡ length first →
+      ((v : ℕ) → Contains values v ↔ SetFails f (set node p v) x) →
+      ((v : ℕ) → v < 9 → get_or now v None ≡ first_of (get_or first v None) (is_element values v) x) → FirstsTo f node p sets now (i + 1)
+  firsts-more first now values x i to within is size fails marked = record {
+    len = size ∙ to.len;
+    firsts = λ v l.
+        let small = order-le f.field in
+        subst (λ o. MatchOption o (NoneFailsBefore f (set node p v) sets (i + 1)) (IsFirstFailingLast f (set node p v) p)) (sym (marked v (omega arith)))
+        (by_case v (get_or first v None) (to.firsts v l) (is_element values v) refl);
+  }
+    where
+      first_at : (v : ℕ) → NoneFailsBefore f (set node p v) sets i → SetFails f (set node p v) x → IsFirstFailingLast f (set node p v) p x
+      first_at v none fails_here = subst (IsFirstFailingLast f (set node p v) p) (sym is)
+          (first_fails (set node p v) i within none (subst (SetFails f (set node p v)) is fails_here))
+
+      by_case : (v : ℕ) (o : Option (List ℕ)) → MatchOption o (NoneFailsBefore f (set node p v) sets i) (IsFirstFailingLast f (set node p v) p) → (b : Bool) → is_element values v ≡ b →
+          MatchOption (first_of o b x) (NoneFailsBefore f (set node p v) sets (i + 1)) (IsFirstFailingLast f (set node p v) p)
+      by_case v (Some y) had b e = had
+      by_case v None none true e = first_at v none ((fails v).0 (Contains-from_element values v e))
+      by_case v None none false e = λ k kl. ⊎_elim
+          (λ (s : k ≡ i). λ failing. both_ways (is_element values v) e (is_element-from_Contains values v ((fails v).1 (subst (SetFails f (set node p v)) (sym (is ∙ ap (λ (j : ℕ). get_or sets j []) (sym s))) failing))))
+          (λ (o : k ≢ i). none k (omega arith))
+          (cases_eq k i)
+
+  -- all sets
+  pub firsts-all : (first : List (Option (List ℕ))) (i : ℕ) → length sets ≤ i → FirstsTo f node p sets first i → (v : ℕ) → v < order f.field → MatchOption (get_or first v None) (NoneFailsLast f (set node p v) p) (IsFirstFailingLast f (set node p v) p)
+  firsts-all first i all to v l = by_case (get_or first v None) (to.firsts v l)
+    where
+      by_case : (o : Option (List ℕ)) → MatchOption o (NoneFailsBefore f (set node p v) sets i) (IsFirstFailingLast f (set node p v) p) → MatchOption o (NoneFailsLast f (set node p v) p) (IsFirstFailingLast f (set node p v) p)
+      by_case (Some y) h = h
+      by_case None none = none_fails (set node p v) (λ k kl. none k (omega arith))
+
+-- a set that needs p last needs no other without a value
+pub others_filled : (f : Framed) (node : List ℕ) (p : ℕ) → ((q : ℕ) → q < p → get_or node q 0 ≢ 0) → (x : List ℕ) → NeedsLast f x p → (q : ℕ) → Needs f x q → q ≢ p → get_or node q 0 ≢ 0
+others_filled f node p earlier x last q needs other = earlier q (let le = last.last q needs in omega arith)

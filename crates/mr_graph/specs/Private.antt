@@ -1,0 +1,6 @@
+-- Definitions that private contracts and proofs use, and no public contract.
+pub mod Graph
+pub mod Labels
+pub mod Grown
+pub mod Components
+pub mod Order

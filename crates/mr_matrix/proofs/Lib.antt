@@ -1,0 +1,15 @@
+pub mod Differences
+pub mod ColumnBases
+pub mod Pieces
+pub mod NumberLines
+pub mod Headers
+pub mod Rows
+pub mod RowSet
+pub mod Blocks
+pub mod SharpBlock
+pub mod AcceptingBlock
+pub mod PairText
+pub mod PlanePoints
+pub mod PlaneRows
+pub mod BlockLaws
+pub mod Single

@@ -1,0 +1,9 @@
+pub mod Difference
+pub mod Confirmation
+pub mod Represented
+pub mod Laws
+pub mod Block
+pub mod Reading
+pub mod Pairs
+pub mod Plane
+pub mod Private

@@ -1,0 +1,336 @@
+ghost use Rattle.std.specs.Prelude.{◌≡◌, length, IfOk, IsTrue};
+ghost use Rattle.std.specs.Bool.{OnTrue};
+ghost use Rattle.mr_assign.specs.Assign.{IsAssign};
+ghost use Rattle.mr_frame.specs.Test.{IsAssignmentOf, IsFull};
+ghost use Rattle.mr_nogood.specs.Follows.{Rows, in_slots};
+ghost use Rattle.mr_exchange.specs.declared.answer.CubeAnswer.TheVariants.{Refuted};
+ghost use Rattle.mr_exchange.specs.Board.{new_holding};
+ghost use Rattle.mr_exchange.specs.Plain.{plain_holding};
+ghost use Rattle.mr_exchange.specs.Cubes.{IsProblemOf};
+ghost use Rattle.mr_exchange.specs.Right.{AreAnswers, IsRight};
+ghost use Rattle.mr_log.specs.Log.{IsLog};
+ghost use Rattle.mr_merge.specs.Merged.{MatchMerged};
+ghost use Rattle.mr_merge.specs.Private.Trial.{HasCube, HasTicket, StaysOn};
+
+use crate::{Merged, merge};
+use mr_assign::{Assign, AssignList};
+use mr_check::{Accepted, check};
+use mr_exchange::{AnswerList, Board, Closed, CubeAnswer, PlainBoard, Problem, cube_at};
+use mr_field::Field;
+use mr_frame::Frame;
+use mr_log::write_log;
+use mr_matroid::Matroid;
+use mr_nogood::{Cite, Row, fails, follows};
+use mr_set::{ELEMENTS, Set, are_sets_of, binomial};
+use std::alloc::{AllocError, Global};
+use std::test::Fail;
+
+// The frame of the matroid of `n` elements in which each set of `r` is a basis, over the field with so many elements.
+fn uniform(alloc: Global, n: u32, r: u32, order: u32) -> Result<Frame, Fail> {
+    if n > ELEMENTS || r > n || binomial(n, r).is_none() {
+        return Err("the numbers are within the limits".into());
+    }
+    let none: [Set; 0] = [];
+    match Matroid::from_nonbases(alloc, n, r, none.as_slice()) {
+        Err(_) => Err("a matroid".into()),
+        Ok(m) => Ok(Frame::new(alloc, m, Field::of(order).ok_or("a field")?)?),
+    }
+}
+
+// The nonbases 013, 024, 056, 125, 146, 236 and 345 of the Fano plane, by their masks.
+const LINES: [u64; 7] = [
+    0b0001011, 0b0010101, 0b1100001, 0b0100110, 0b1010010, 0b1001100, 0b0111000,
+];
+
+// The frame of the Fano plane over three elements.
+fn fano(alloc: Global) -> Result<Frame, Fail> {
+    let mut sets = Vec::new(alloc);
+    for mask in LINES {
+        sets.push(Set::of_mask(mask).ok_or("the elements are below 32")?)?;
+    }
+    if !are_sets_of(7, 3, sets.as_slice()) {
+        return Err("the sets are in order".into());
+    }
+    match Matroid::from_nonbases(alloc, 7, 3, sets.as_slice()) {
+        Err(_) => Err("a matroid".into()),
+        Ok(m) => Ok(Frame::new(alloc, m, Field::of(3).ok_or("a field")?)?),
+    }
+}
+
+// The answer for an assignment of all positions: itself where no set fails under it, else the first that does.
+fn answer_of(alloc: Global, frame: &Frame, cube: &Assign) -> Result<CubeAnswer, AllocError>
+    requires map { IsAssign cube.now }
+    requires assignment { IsAssignmentOf frame.now cube.now }
+    requires full { IsFull frame.now cube.now }
+    ensures { (rows : Rows) → IfOk result (IsRight frame.now rows cube.now) }
+{
+    match frame.first_failing(cube) {
+        Some(x) => Ok(CubeAnswer::Refuted(Cite::Test(x))),
+        None => {
+            let mut list = AssignList::new(alloc);
+            match list.push(*cube) {
+                Err(e) => Err(e),
+                Ok(()) => Ok(CubeAnswer::Found(list)),
+            }
+        }
+    }
+}
+
+// The answers for the cubes of a problem that splits all positions.
+fn all_answers(alloc: Global, frame: &Frame, problem: Problem) -> Result<AnswerList, AllocError>
+    requires problem { IsProblemOf frame.now problem }
+    requires all { problem.depth ≡ length frame.now.places }
+    ensures { (rows : Rows) → IfOk result (AreAnswers frame.now problem rows) }
+{
+    // The clauses of `basis` say that it is a frame.
+    let _basis = frame.basis();
+    let mut answers = AnswerList::new(alloc);
+    for c in 0..problem.cubes {
+        let cube = cube_at(frame, problem.depth, c);
+        match answer_of(alloc, frame, &cube) {
+            Err(e) => return Err(e),
+            Ok(answer) => match answers.push(answer) {
+                Err(e) => return Err(e),
+                Ok(()) => {}
+            },
+        }
+    }
+    Ok(answers)
+}
+
+// What the answers for all full assignments of a frame with few positions are merged to.
+fn merged(alloc: Global, frame: &Frame) -> Result<Merged, Fail>
+    ensures { IfOk result (λ merged. MatchMerged merged (λ forms. Unit {0}) (λ log. IsLog log)) }
+{
+    let problem = Problem::of(frame, 4, 10);
+    if problem.depth != frame.free() {
+        return Err("few positions".into());
+    }
+    let board = PlainBoard::new(alloc, frame, problem)?;
+    let closed = board.close();
+    let answers = all_answers(alloc, frame, problem)?;
+    match merge(alloc, frame, problem, &answers, &closed) {
+        Err(e) => Err(e.into()),
+        Ok(merged) => Ok(merged),
+    }
+}
+
+#[test]
+fn the_line_of_four_points_has_two_forms_over_four_elements(rt: HostRuntime) -> Result<(), Fail> {
+    let alloc = rt.alloc();
+    let frame = uniform(alloc, 4, 2, 4)?;
+    match merged(alloc, &frame)? {
+        Merged::Refuted(_) => Err("forms".into()),
+        Merged::Forms(forms) => {
+            let wanted = [Assign::empty().with(0, 2), Assign::empty().with(0, 3)];
+            assert_eq!(rt; forms.as_slice(), wanted.as_slice());
+            Ok(())
+        }
+    }
+}
+
+// The log of the line of five points over three elements: 1 at position 0 makes 2 3 fail, and with 2 there each value
+// at position 1 makes a set fail.
+const FIVE: &[u8] =
+    b"refutation 1\nfield 3\nmatroid 1\nelements 5\nrank 2\nnonbases 0\nend\nsteps 2\nat 1 if 0:2 by t 2 4 t 3 4\nat 0 if - by t 2 3 s 0\nend s 1\n";
+
+// That of the line of four points over two elements: without a position 2 3 fails at once.
+const FOUR: &[u8] =
+    b"refutation 1\nfield 2\nmatroid 1\nelements 4\nrank 2\nnonbases 0\nend\nsteps 0\nend t 2 3\n";
+
+#[test]
+fn where_there_is_no_form_the_log_is_accepted(rt: HostRuntime) -> Result<(), Fail> {
+    let alloc = rt.alloc();
+    let cases: [(u32, u32, &[u8], u32); 2] = [(5, 3, FIVE, 2), (4, 2, FOUR, 0)];
+    for (n, order, wanted, steps) in cases {
+        let frame = uniform(alloc, n, 2, order)?;
+        match merged(alloc, &frame)? {
+            Merged::Forms(_) => return Err("a log".into()),
+            Merged::Refuted(log) => {
+                let text = write_log(alloc, &log)?;
+                assert_eq!(rt; text.as_bytes(), wanted);
+                if wanted.len() > 1000 {
+                    return Err("a short log".into());
+                }
+                assert_eq!(rt; check(alloc, wanted, frame.field()), Ok(Accepted { steps }));
+            }
+        }
+    }
+    Ok(())
+}
+
+// Its three free positions are all split: no cube has a completion.
+#[test]
+fn the_fano_plane_is_refuted_over_three_elements(rt: HostRuntime) -> Result<(), Fail> {
+    let alloc = rt.alloc();
+    let frame = fano(alloc)?;
+    match merged(alloc, &frame)? {
+        Merged::Forms(_) => Err("a log".into()),
+        Merged::Refuted(log) => {
+            let text = write_log(alloc, &log)?;
+            if text.as_bytes().len() > 1000 {
+                return Err("a short log".into());
+            }
+            let verdict = check(alloc, text.as_bytes(), frame.field());
+            assert_eq!(rt; verdict, Ok(Accepted { steps: 3 }));
+            Ok(())
+        }
+    }
+}
+
+// Whether a new pass claims the cubes 0 and 1.
+fn claims_two(board: &mut PlainBoard<'_>) -> bool
+    requires { plain_holding board.old ≡ new_holding (plain_holding board.old).frame (plain_holding board.old).problem }
+    ensures cube { OnTrue result (HasCube (plain_holding board.new)) }
+    ensures stays { StaysOn (plain_holding board.old) (plain_holding board.new) }
+{
+    match board.claim() {
+        Some(0) => {}
+        _ => return false,
+    }
+    match board.claim() {
+        Some(cube) => cube == 1,
+        None => false,
+    }
+}
+
+// Whether the pass draws the ticket 0 for the cube 1.
+fn opens(board: &mut PlainBoard<'_>) -> bool
+    requires { HasCube (plain_holding board.old) }
+    ensures ticket { OnTrue result (HasTicket (plain_holding board.new)) }
+    ensures stays { StaysOn (plain_holding board.old) (plain_holding board.new) }
+{
+    let problem = board.problem();
+    if problem.cubes < 2 {
+        return false;
+    }
+    let node = cube_at(board.frame(), problem.depth, 1);
+    match board.open_node(&node) {
+        Some(ticket) => ticket == 0,
+        None => false,
+    }
+}
+
+// Publishes a row that follows from sets that fail.
+fn publishes(board: &mut PlainBoard<'_>, row: &Row) -> bool
+    requires { HasTicket (plain_holding board.old) }
+    ensures { StaysOn (plain_holding board.old) (plain_holding board.new) }
+{
+    if row.rank != 0 || !follows(board.frame(), row, &[]) {
+        return false;
+    }
+    board.publish(0, row);
+    true
+}
+
+// Whether a new pass publishes the row in the slot 0.
+fn plays(board: &mut PlainBoard<'_>, row: &Row) -> bool
+    requires { plain_holding board.old ≡ new_holding (plain_holding board.old).frame (plain_holding board.old).problem }
+    ensures { StaysOn (plain_holding board.old) (plain_holding board.new) }
+{
+    if !claims_two(board) {
+        return false;
+    }
+    if !opens(board) {
+        return false;
+    }
+    publishes(board, row)
+}
+
+// Whether the set fails under the assignment, or the clause of the slot's row lies in it.
+fn refutes(frame: &Frame, closed: &Closed, a: &Assign, cite: &Cite) -> bool
+    requires { IsAssignmentOf frame.now a.now }
+    ensures { IsTrue result → IsRight frame.now (in_slots closed.now.rows) a.now (Refuted cite.now) }
+{
+    match cite {
+        Cite::Nothing => false,
+        Cite::Test(x) => fails(frame, *x, a),
+        Cite::Slot(s) => match closed.row(*s) {
+            None => false,
+            Some(row) => a.contains(&row.clause),
+        },
+    }
+}
+
+// The answers by these cites, where each refutes its cube.
+fn answers_by(
+    alloc: Global,
+    frame: &Frame,
+    problem: Problem,
+    closed: &Closed,
+    cites: &[Cite],
+) -> Result<AnswerList, Fail>
+    requires { IsProblemOf frame.now problem }
+    ensures { IfOk result (AreAnswers frame.now problem (in_slots closed.now.rows)) }
+{
+    if cites.len() != problem.cubes as usize {
+        return Err("a cite for each cube".into());
+    }
+    let mut answers = AnswerList::new(alloc);
+    for c in 0..problem.cubes {
+        let cube = cube_at(frame, problem.depth, c);
+        let cite = &cites[c as usize];
+        if !refutes(frame, closed, &cube, cite) {
+            return Err("a cite that refutes".into());
+        }
+        match answers.push(CubeAnswer::Refuted(*cite)) {
+            Err(e) => return Err(e.into()),
+            Ok(()) => {}
+        }
+    }
+    Ok(answers)
+}
+
+// The set with this mask.
+fn test(mask: u64) -> Cite {
+    match Set::of_mask(mask) {
+        Some(x) => Cite::Test(x),
+        None => Cite::Nothing,
+    }
+}
+
+// With 2 at position 0 each value at 1 makes 2 4 or 3 4 fail.
+fn row() -> Row {
+    let mut cites = [Cite::Nothing; 8];
+    cites[0] = test(0b10100);
+    cites[1] = test(0b11000);
+    Row {
+        rank: 0,
+        at: 1,
+        clause: Assign::empty().with(0, 2),
+        cites,
+    }
+}
+
+// What is merged where one position is split, 2 3 refutes the first cube and the row of slot 0 the second.
+fn merged_by_row(alloc: Global, frame: &Frame) -> Result<Merged, Fail>
+    ensures { IfOk result (λ merged. MatchMerged merged (λ forms. Unit {0}) (λ log. IsLog log)) }
+{
+    let problem = Problem::of(frame, 1, 10);
+    let mut board = PlainBoard::new(alloc, frame, problem)?;
+    if !plays(&mut board, &row()) {
+        return Err("a row".into());
+    }
+    let closed = board.close();
+    let cites = [test(0b1100), Cite::Slot(0)];
+    let answers = answers_by(alloc, frame, problem, &closed, cites.as_slice())?;
+    match merge(alloc, frame, problem, &answers, &closed) {
+        Err(e) => Err(e.into()),
+        Ok(merged) => Ok(merged),
+    }
+}
+
+// The same log, of whose steps the first is the board's row.
+#[test]
+fn a_row_of_the_board_becomes_a_step(rt: HostRuntime) -> Result<(), Fail> {
+    let alloc = rt.alloc();
+    let frame = uniform(alloc, 5, 2, 3)?;
+    match merged_by_row(alloc, &frame)? {
+        Merged::Forms(_) => Err("a log".into()),
+        Merged::Refuted(log) => {
+            let text = write_log(alloc, &log)?;
+            assert_eq!(rt; text.as_bytes(), FIVE);
+            Ok(())
+        }
+    }
+}

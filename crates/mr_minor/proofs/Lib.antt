@@ -1,0 +1,17 @@
+pub mod Counting
+pub mod Exchanging
+pub mod Bases
+pub mod Collecting
+pub mod Renumbering
+pub mod Ranks
+pub mod MinorRanks
+pub mod Sizes
+pub mod DualBases
+pub mod Taking
+pub mod Originals
+pub mod MinorBases
+pub mod Bitwise
+pub mod Determined
+pub mod InSteps
+pub mod Existing
+pub mod DualMinors

@@ -1,0 +1,4 @@
+pub mod Dual
+pub mod Minor
+pub mod Laws
+pub mod Private

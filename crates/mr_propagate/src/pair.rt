@@ -1,0 +1,60 @@
+ghost use Rattle.std.specs.Prelude.{◌≡◌, ◌<◌, ◌≤◌, ◌+◌, ◌*◌, MatchBool, MatchOption, slice_index};
+ghost use Rattle.mr_assign.specs.declared.TheConstants.{POSITIONS, VALUES};
+ghost use Rattle.mr_propagate.specs.Pairs.{IsLeastPair};
+ghost use Rattle.mr_propagate.specs.Private.Pairs.{IsEmpty, IsGreatestPair, IsPairNumber, IsPair, pair_number};
+
+use mr_assign::{Assign, POSITIONS, VALUES};
+
+/// Whether a map may have the pair.
+pub(crate) fn is_pair(p: u32, v: u8) -> bool
+    ensures { MatchBool result (IsPair p v) (¬ (IsPair p v)) }
+{
+    if p >= POSITIONS {
+        return false;
+    }
+    if v == 0 {
+        return false;
+    }
+    v <= VALUES
+}
+
+/// The number of a pair.
+pub(crate) fn pair_number(p: u32, v: u8) -> usize
+    requires position { p < POSITIONS }
+    requires value { v ≤ VALUES }
+    ensures { result ≡ pair_number p v }
+{
+    p as usize * VALUES as usize + v as usize
+}
+
+/// The number of a map's least pair, 0 where it has none.
+pub(crate) fn least_number(a: &Assign) -> usize
+    ensures number { IsPairNumber IsLeastPair a.now result }
+    ensures small { result < POSITIONS * VALUES + 1 }
+{
+    // The clauses of `words` say that there are no more positions.
+    let _words = a.words();
+    for p in 0..POSITIONS {
+        let v = a.get(p);
+        if v != 0 {
+            return pair_number(p, v);
+        }
+    }
+    0
+}
+
+/// The greatest position with a value.
+pub(crate) fn greatest(a: &Assign) -> Option<u32>
+    ensures { MatchOption result (IsEmpty a.now) (λ p. (p < POSITIONS) × IsGreatestPair a.now p (slice_index a.now p)) }
+{
+    // The clauses of `words` say that there are no more positions.
+    let _words = a.words();
+    let mut p = POSITIONS;
+    while p > 0 {
+        p -= 1;
+        if a.get(p) != 0 {
+            return Some(p);
+        }
+    }
+    None
+}

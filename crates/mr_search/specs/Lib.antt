@@ -1,0 +1,4 @@
+pub mod Nodes
+pub mod Search
+pub mod Laws
+pub mod Private

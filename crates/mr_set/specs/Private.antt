@@ -1,0 +1,3 @@
+-- Definitions that private contracts and proofs use, and no public contract.
+pub mod Masks
+pub mod Enumeration
