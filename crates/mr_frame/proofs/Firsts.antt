@@ -1,9 +1,10 @@
 -- The first set that fails for each value of a position.
-use Rattle.std.proofs.Common.{ℕ, ◌+◌, ◌<◌, ◌≤◌, ◌≡◌, ◌≢◌, ◌↔◌, Bool, true, false, List, [], length, get_or, set, Option, Some, None, refl, sym, ap, subst, ◌∙◌, ⊎_elim, arith, length-set, get_or-set_same, get_or-set_other}
+use Rattle.std.proofs.Common.{ne_eqb, ℕ, ◌+◌, ◌<◌, ◌≤◌, ◌≡◌, ◌≢◌, ◌↔◌, Bool, true, false, List, [], length, get_or, set, Option, Some, None, refl, sym, ap, subst, ◌∙◌, ⊎_elim, arith, length-set, get_or-set_same, get_or-set_other}
 use Rattle.std.specs.Prelude.{Contains, MatchOption}
 use Rattle.std.proofs.lemmas.Bool.{cases_eq, both_ways}
-use Rattle.mr_set.specs.Elements.{is_element}
-use Rattle.mr_set.proofs.Members.{Contains-from_element, is_element-from_Contains}
+use Rattle.mr_set.specs.Elements.{is_element, without_element}
+use Rattle.mr_linear.proofs.Opening.{of_others}
+use Rattle.mr_set.proofs.Members.{is_element-without, Contains-from_element, is_element-from_Contains}
 use Rattle.mr_frame.specs.Frame.{Framed}
 use Rattle.mr_frame.specs.Test.{Needs, NeedsLast, SetFails}
 use Rattle.mr_frame.specs.Parts.{NoneFailsLast, IsFirstFailingLast}
@@ -21,42 +22,60 @@ use Rattle.std.proofs.lemmas.List.Elements.{Contains-get_or}
 use Rattle.std.proofs.lemmas.Option.{slice_get-get_or}
 use Rattle.mr_set.proofs.Ordered.{later_is_greater, not_before_itself, not_both_ways}
 
--- the first values are looked at
-pub record MarkedTo (values x : List ℕ) (old now : List (Option (List ℕ))) (i : ℕ) : Type 0 where
+-- the values of a set but those that are left are looked at
+pub record MarkedBut (values x : List ℕ) (old now : List (Option (List ℕ))) (left : List ℕ) : Type 0 where
   pub len : length now ≡ 9
-  pub done : (v : ℕ) → v < i → get_or now v None ≡ first_of (get_or old v None) (is_element values v) x
-  pub left : (v : ℕ) → i ≤ v → get_or now v None ≡ get_or old v None
+  pub done : (v : ℕ) → is_element left v ≡ false → get_or now v None ≡ first_of (get_or old v None) (is_element values v) x
+  pub kept : (v : ℕ) → is_element left v ≡ true → get_or now v None ≡ get_or old v None
+  pub within : (v : ℕ) → is_element left v ≡ true → is_element values v ≡ true
 
-module _ (values x : List ℕ) (old now : List (Option (List ℕ))) (i : ℕ) (to : MarkedTo values x old now i) where
-  -- the value's set stays
-  pub marked-same : first_of (get_or old i None) (is_element values i) x ≡ get_or now i None → MarkedTo values x old now (i + 1)
-  marked-same same = record {
+-- where no value fails nothing changes
+first_of-false : (o : Option (List ℕ)) (x : List ℕ) → o ≡ first_of o false x
+first_of-false None x = refl
+first_of-false (Some y) x = refl
+
+-- at the start all are left
+pub marked-none : (values x : List ℕ) (old : List (Option (List ℕ))) → length old ≡ 9 → MarkedBut values x old old values
+marked-none values x old len = record {
+  len = len;
+  done = λ v out. first_of-false (get_or old v None) x ∙ ap (λ b. first_of (get_or old v None) b x) (sym out);
+  kept = λ v h. refl;
+  within = λ v h. h;
+}
+
+module _ (values x : List ℕ) (old now : List (Option (List ℕ))) (left left' : List ℕ) (e : ℕ) (to : MarkedBut values x old now left) (less : left' ≡ without_element e left) (inside : is_element left e ≡ true) where
+  -- what is left is another one
+  other : (v : ℕ) → is_element left' v ≡ true → (v ≢ e) × (is_element left v ≡ true)
+  other v h = of_others left left' e v less (Contains-from_element left' v h)
+
+  -- another one that isn't left wasn't left before
+  gone : (v : ℕ) → v ≢ e → is_element left' v ≡ false → is_element left v ≡ false
+  gone v ne h = sym (ap (λ (ys : List ℕ). is_element ys v) less ∙ is_element-without e v left ∙ rw (ne_eqb v e ne) refl) ∙ h
+
+  -- the value has a set
+  pub marked-some : (y : List ℕ) → get_or now e None ≡ Some y → MarkedBut values x old now left'
+  marked-some y is = record {
     len = to.len;
-    done = λ v l. ⊎_elim
-        (λ (p : v ≡ i). subst (λ (k : ℕ). get_or now k None ≡ first_of (get_or old k None) (is_element values k) x) (sym p) (sym same))
-        (λ (o : v ≢ i). to.done v (omega arith))
-        (cases_eq v i);
-    left = λ v l. to.left v (omega arith);
+    done = λ v out. ⊎_elim
+        (λ (p : v ≡ e). subst (λ (k : ℕ). get_or now k None ≡ first_of (get_or old k None) (is_element values k) x) (sym p)
+        (is ∙ sym (ap (λ o. first_of o (is_element values e) x) (sym (to.kept e inside) ∙ is))))
+        (λ (o : v ≢ e). to.done v (gone v o out))
+        (cases_eq v e);
+    kept = λ v h. to.kept v (other v h).1;
+    within = λ v h. to.within v (other v h).1;
   }
 
-  -- it has a set
-  pub marked-some : (y : List ℕ) → get_or now i None ≡ Some y → MarkedTo values x old now (i + 1)
-  marked-some y is = marked-same (ap (λ o. first_of o (is_element values i) x) (sym (to.left i (omega arith)) ∙ is) ∙ sym is)
-
-  -- it has none, and the set doesn't fail with it
-  pub marked-out : get_or now i None ≡ None → is_element values i ≡ false → MarkedTo values x old now (i + 1)
-  marked-out is out = marked-same (ap (λ o. first_of o (is_element values i) x) (sym (to.left i (omega arith)) ∙ is) ∙ ap (λ b. first_of None b x) out ∙ sym is)
-
-  -- it has none, and the set fails with it
-  pub marked-set : i < 9 → get_or now i None ≡ None → is_element values i ≡ true → MarkedTo values x old (set now i (Some x)) (i + 1)
-  marked-set small is has = record {
-    len = length-set now i (Some x) ∙ to.len;
-    done = λ v l. ⊎_elim
-        (λ (p : v ≡ i). subst (λ (k : ℕ). get_or (set now i (Some x)) k None ≡ first_of (get_or old k None) (is_element values k) x) (sym p)
-        (get_or-set_same now i (Some x) None (let n = to.len in omega arith) ∙ sym (ap (λ o. first_of o (is_element values i) x) (sym (to.left i (omega arith)) ∙ is) ∙ ap (λ b. first_of None b x) has)))
-        (λ (o : v ≢ i). get_or-set_other now i v (Some x) None o ∙ to.done v (omega arith))
-        (cases_eq v i);
-    left = λ v l. get_or-set_other now i v (Some x) None (omega arith) ∙ to.left v (omega arith);
+  -- it has none
+  pub marked-set : e < 9 → get_or now e None ≡ None → MarkedBut values x old (set now e (Some x)) left'
+  marked-set small is = record {
+    len = length-set now e (Some x) ∙ to.len;
+    done = λ v out. ⊎_elim
+        (λ (p : v ≡ e). subst (λ (k : ℕ). get_or (set now e (Some x)) k None ≡ first_of (get_or old k None) (is_element values k) x) (sym p)
+        (get_or-set_same now e (Some x) None (let n = to.len in omega arith) ∙ sym (ap (λ o. first_of o (is_element values e) x) (sym (to.kept e inside) ∙ is) ∙ ap (λ b. first_of None b x) (to.within e inside))))
+        (λ (o : v ≢ e). get_or-set_other now e v (Some x) None o ∙ to.done v (gone v o out))
+        (cases_eq v e);
+    kept = λ v h. get_or-set_other now e v (Some x) None (other v h).0 ∙ to.kept v (other v h).1;
+    within = λ v h. to.within v (other v h).1;
   }
 
 -- a value without a set

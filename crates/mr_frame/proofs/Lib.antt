@@ -15,6 +15,7 @@ pub mod OneVerdict
 pub mod OneFrame
 pub mod Filled
 pub mod Apart
+pub mod Chosen
 pub mod Lasting
 pub mod Values
 pub mod Parting

@@ -1,11 +1,10 @@
 -- What a frame keeps of the sets that are due at a position.
-use Rattle.std.proofs.Common.{ℕ, ◌≡◌, ◌↔◌, List, [], length, get_or, refl, sym, ap, subst, ◌∙◌, arith}
+use Rattle.std.proofs.Common.{ℕ, ◌≡◌, ◌↔◌, List, [], length, get_or, sym, ap, subst, ◌∙◌, arith}
 use Rattle.std.specs.Prelude.{◌<◌, Contains, Some, slice_get, map}
 use Rattle.std.specs.List.Sorted.{IsStrictlySortedBy}
 use Rattle.std.proofs.lemmas.List.{get_or_default, get_or-map, length-map}
 use Rattle.std.proofs.lemmas.List.Elements.{Contains-get_or}
 use Rattle.mr_set.specs.Subsets.{IsSetOf, list_cmp}
-use Rattle.mr_set.specs.Matroid.{Presentation}
 use Rattle.mr_frame.specs.Frame.{Framed}
 use Rattle.mr_frame.specs.Test.{NeedsLast}
 use Rattle.mr_frame.specs.Private.Kept.{IsKept, AreDue}

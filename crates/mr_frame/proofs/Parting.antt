@@ -11,7 +11,7 @@ use Rattle.mr_set.specs.Subsets.{IsSetOf}
 use Rattle.mr_set.specs.Matroid.{Presentation}
 use Rattle.mr_graph.specs.declared.edge.Edge.{Edge}
 use Rattle.mr_frame.specs.Private.Building.{AreSets, HasAndNot, AreLast}
-use Rattle.mr_frame.specs.Private.Parts.{IsPartOfSet, AreParts, ArePartLists}
+use Rattle.mr_frame.specs.Private.Parts.{IsPartOfSet, AreParts}
 use Rattle.mr_frame.specs.declared.part.Part.{Part}
 
 -- so many sets have theirs

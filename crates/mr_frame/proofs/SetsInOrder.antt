@@ -31,16 +31,6 @@ module _ (n r : ℕ) (P : List ℕ → Type 0) where
     exactly = λ x. ((λ inside. absurd (member_none x inside)), (λ h. absurd (first.least x h.0 h.1.1)));
   }
 
-  -- a set that isn't taken
-  pub through_same : (s : List ℕ) (sets : List (List ℕ)) → IsListedBefore n r P s sets → (P s → ⊥) → IsListedThrough n r P s sets
-  through_same s sets h never = record {
-    increasing = h.increasing;
-    exactly = λ x. (
-      (λ inside. let was = (h.exactly x).0 inside in (was.0, (was.1.0, inl was.1.1))),
-      (λ is. ⊎_elim (λ (p : IsBefore x s). (h.exactly x).1 (is.0, (is.1.0, p))) (λ (p : x ≡ s). absurd (never (subst P p is.1.0))) is.1.1),
-    );
-  }
-
   -- a set that is taken
   pub through_more : (s : List ℕ) (sets : List (List ℕ)) → IsListedBefore n r P s sets → IsSetOf n r s → P s → IsListedThrough n r P s (sets ++ s ∷ [])
   through_more s sets h set is = record {

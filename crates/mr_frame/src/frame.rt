@@ -1,6 +1,6 @@
 ghost use Rattle.std.specs.Prelude.{◌≡◌, ◌≢◌, ◌↔◌, ◌<◌, ◌≤◌, ◌+◌, ◌*◌, ℕ, List, IsTrue, IfOk, IfSome, MatchBool, MatchOption, Contains, Some, None, length, slice_get, slice_index, slice_index_or, slice_set};
 ghost use Rattle.std.specs.List.Sorted.{IsPermutation, IsStrictlySortedBy};
-ghost use Rattle.mr_field.specs.Gf.{order};
+ghost use Rattle.mr_field.specs.Gf.{Gf, order};
 ghost use Rattle.mr_set.specs.declared.TheConstants.{ELEMENTS};
 ghost use Rattle.mr_set.specs.Subsets.{IsSetOf, list_cmp};
 ghost use Rattle.mr_assign.specs.declared.TheConstants.{POSITIONS};
@@ -232,9 +232,13 @@ impl Frame {
         ensures { (v : ℕ) → v < order self.now.field → MatchOption (slice_index_or result v None) (NoneFailsLast self.now (slice_set a.now p v) p) (IsFirstFailingLast self.now (slice_set a.now p v) p) }
     {
         let full = self.outside(a);
+        let place = self.place(p);
+        let spare = elements(self.basis)[place.row as usize];
+        let mut copy = full;
         let mut first = [None; WIDTH];
         for part in self.parts[p as usize].as_slice() {
-            mark(&mut first, self.failing_part(part, p, a, &full), part.set);
+            let failing = self.failing_part(part, p, place, spare, a, &full, &mut copy);
+            mark(&mut first, failing, part.set);
         }
         first
     }
@@ -368,31 +372,43 @@ impl Frame {
     }
 
     // The values of a free position for which a set fails, by what is kept of the set and the entries outside of the basis.
-    fn failing_part(&self, part: &Part, p: u32, a: &Assign, full: &[u8; CELLS]) -> Set
+    fn failing_part(
+        &self,
+        part: &Part,
+        p: u32,
+        place: Edge,
+        spare: u32,
+        a: &Assign,
+        full: &[u8; CELLS],
+        copy: &mut [u8; CELLS],
+    ) -> Set
+        requires place { slice_get self.now.places p ≡ Some place }
+        requires spare { spare ≡ slice_index self.now.basis place.row }
         requires part { IsPartOfSet self.now.matroid self.now.basis part.now.set part.now }
         requires set { IsSetOf self.now.matroid.elements self.now.matroid.rank part.now.set }
         requires assignment { IsAssignmentOf self.now a.now }
         requires position { Needs self.now part.now.set p }
         requires others { (q : ℕ) → Needs self.now part.now.set q → q ≢ p → slice_index a.now q ≢ 0 }
         requires elements { InField self.now.field full.now }
+        requires scratch { InField self.now.field copy.old }
         requires values { (i e : ℕ) → i < self.now.matroid.rank → e < self.now.matroid.elements → ¬ (Contains self.now.basis e) → HasValue self.now a.now i e (cell full.now i e) }
-        ensures { (v : ℕ) → Contains result v ↔ SetFails self.now (slice_set a.now p v) part.now.set }
+        ensures fails { (v : ℕ) → Contains result v ↔ SetFails self.now (slice_set a.now p v) part.now.set }
+        ensures small { (v : ℕ) → Contains result v → v < WIDTH }
+        ensures scratch { InField self.now.field copy.new }
     {
         // The clauses of `words` say how many positions there are.
         let _positions = a.words();
-        let mut copy = *full;
-        let place = self.place(p);
-        let members = elements(self.basis);
+        copy_rows(full, copy, self.matroid.rank());
         let dependent = dependent_values(
             &self.field,
-            &mut copy,
+            copy,
             self.matroid.rank(),
             self.matroid.elements(),
             part.rows,
             part.columns,
             place.row,
             place.col,
-            members[place.row as usize],
+            spare,
         );
         values_where(&self.field, part.basis, dependent)
     }
@@ -484,6 +500,17 @@ impl Frame {
             Verdict::Fails => true,
             Verdict::Holds | Verdict::Unknown => false,
         }
+    }
+}
+
+// Copies the first rows.
+fn copy_rows(full: &[u8; CELLS], copy: &mut [u8; CELLS], rows: u32)
+    requires { rows ≤ ELEMENTS }
+    ensures same { (i j : ℕ) → i < rows → j < STRIDE → cell copy.new i j ≡ cell full.now i j }
+    ensures elements { (f : Gf) → InField f full.now → InField f copy.old → InField f copy.new }
+{
+    for k in 0..rows as usize * STRIDE {
+        copy[k] = full[k];
     }
 }
 

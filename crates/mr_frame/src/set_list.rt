@@ -4,7 +4,8 @@ ghost use Rattle.mr_set.specs.Subsets.{IsSetOf, list_cmp};
 ghost use Rattle.std.specs.List.Sorted.{IsStrictlySortedBy};
 ghost use Rattle.mr_set.specs.Matroid.{IsBasis};
 ghost use Rattle.mr_graph.specs.declared.edge.Edge.{Edge as EdgeValue};
-ghost use Rattle.mr_frame.specs.Private.Building.{AreSets, HasAndNot, HasLater, AreLast, IsListedBefore, IsListedThrough};
+ghost use Rattle.mr_frame.specs.Private.Building.{AreSets, AreChosen, HasAndNot, HasLater, AreLast};
+ghost use Rattle.mr_set.specs.Places.{IsAllSets};
 
 use mr_graph::Edge;
 use mr_matroid::Matroid;
@@ -41,23 +42,6 @@ impl SetList {
         &self.items
     }
 
-    // Takes the set if it has the one element and not the other.
-    fn take(&mut self, n: u32, x: Set, with: u32, without: u32) -> Result<(), AllocError>
-        requires with { with < ELEMENTS }
-        requires without { without < ELEMENTS }
-        requires set { IsSetOf n (length x) x }
-        requires listed { IsListedBefore n (length x) (HasAndNot with without) x self.old }
-        ensures { OnOk result (IsListedThrough n (length x) (HasAndNot with without) x self.new) }
-    {
-        if !x.has(with) {
-            return Ok(());
-        }
-        if x.has(without) {
-            return Ok(());
-        }
-        Ok(self.items.push(x)?)
-    }
-
     // Takes the set if it is wanted.
     fn take_if(&mut self, x: Set, wanted: bool) -> Result<(), AllocError>
         ensures { OnOk result (self.new ≡ (if wanted then self.old ++ x ∷ [] else self.old)) }
@@ -69,23 +53,54 @@ impl SetList {
     }
 }
 
-// The sets of `r` of the first `n` elements that have the one element and not the other, in order.
-fn sets_with(alloc: Global, n: u32, r: u32, with: u32, without: u32) -> Result<SetList, AllocError>
+// All sets of `r` of the first `n` elements, in order.
+fn all_sets(alloc: Global, n: u32, r: u32) -> Result<SetList, AllocError>
     requires elements { n ≤ ELEMENTS }
     requires size { r ≤ n }
-    requires with { with < ELEMENTS }
-    requires without { without < ELEMENTS }
-    ensures { IfOk result (AreSets n r (HasAndNot with without)) }
+    ensures { IfOk result (IsAllSets n r) }
 {
     let mut list = SetList::new(alloc);
     let mut x = first_subset(n, r);
     'sets: loop {
-        list.take(n, x, with, without)?;
+        list.take_if(x, true)?;
         match next_subset(n, x) {
             Some(next) => x = next,
             None => return Ok(list),
         }
     }
+}
+
+// Whether the part of a set has a place.
+fn has_place(x: Set, place: Edge, members: &[u32]) -> bool
+    requires row { place.row < length members.now }
+    requires column { place.col < ELEMENTS }
+    requires elements { (k : ℕ) → k < length members.now → slice_index members.now k < ELEMENTS }
+    ensures { MatchBool result (HasAndNot place.col (slice_index members.now place.row) x) (¬ (HasAndNot place.col (slice_index members.now place.row) x)) }
+{
+    if !x.has(place.col) {
+        return false;
+    }
+    !x.has(members[place.row as usize])
+}
+
+// Those of the sets whose part has a place, in order.
+fn with_place(
+    alloc: Global,
+    sets: &[Set],
+    place: Edge,
+    members: &[u32],
+) -> Result<SetList, AllocError>
+    requires sorted { IsStrictlySortedBy list_cmp sets.now }
+    requires row { place.row < length members.now }
+    requires column { place.col < ELEMENTS }
+    requires elements { (k : ℕ) → k < length members.now → slice_index members.now k < ELEMENTS }
+    ensures { IfOk result (AreChosen (HasAndNot place.col (slice_index members.now place.row)) sets.now) }
+{
+    let mut list = SetList::new(alloc);
+    for x in sets {
+        list.take_if(*x, has_place(*x, place, members))?;
+    }
+    Ok(list)
 }
 
 /// For each free position the sets that need it.
@@ -104,25 +119,13 @@ pub(crate) fn tests_of(
     let n = m.elements();
     let r = m.rank();
     let members = elements(basis);
+    let all = all_sets(alloc, n, r)?;
     let mut tests = Vec::new(alloc);
     for place in places {
-        let list = sets_with(alloc, n, r, place.col, members[place.row as usize])?;
+        let list = with_place(alloc, all.as_slice(), *place, members.as_slice())?;
         tests.push(list)?;
     }
     Ok(tests)
-}
-
-// Whether the part of a set has a place.
-fn has_place(x: Set, place: Edge, members: &[u32]) -> bool
-    requires row { place.row < length members.now }
-    requires column { place.col < ELEMENTS }
-    requires elements { (k : ℕ) → k < length members.now → slice_index members.now k < ELEMENTS }
-    ensures { MatchBool result (HasAndNot place.col (slice_index members.now place.row) x) (¬ (HasAndNot place.col (slice_index members.now place.row) x)) }
-{
-    if !x.has(place.col) {
-        return false;
-    }
-    !x.has(members[place.row as usize])
 }
 
 // Whether the part of a set has a later place than this one.

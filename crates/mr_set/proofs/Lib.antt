@@ -11,3 +11,4 @@ pub mod Ordered
 pub mod Listing
 pub mod Placing
 pub mod Uniqueness
+pub mod Lowest

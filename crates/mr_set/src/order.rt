@@ -16,10 +16,10 @@ pub fn elements(s: Set) -> ArrayVec<u32, ROOM>
     // The clauses of `mask` say that the elements stand in order, below `ELEMENTS`.
     let _mask = s.mask();
     let mut list: ArrayVec<u32, ROOM> = ArrayVec::new();
-    for e in 0..ELEMENTS {
-        if s.has(e) {
-            list.push(e);
-        }
+    let mut left = s;
+    while let Some(e) = left.first() {
+        list.push(e);
+        left = left.without(e);
     }
     list
 }

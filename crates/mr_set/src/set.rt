@@ -1,5 +1,5 @@
-ghost use Rattle.std.specs.Prelude.{◌≡◌, ◌↔◌, ◌<◌, ◌^◌, [], length, IsTrue, Contains, SomeIff};
-ghost use Rattle.mr_set.specs.Elements.{IsSet, IsSubset, elements_below, mask_of, with_element, without_element, union, meet, minus};
+ghost use Rattle.std.specs.Prelude.{◌≡◌, ◌↔◌, ◌<◌, ◌≤◌, ◌^◌, [], length, slice_get, IsTrue, Contains, IfSome, SomeIff};
+ghost use Rattle.mr_set.specs.Elements.{IsSet, IsSubset, numbers_below, elements_below, mask_of, with_element, without_element, union, meet, minus};
 
 use crate::ELEMENTS;
 use std::marker::Model;
@@ -118,6 +118,25 @@ impl Set {
         self.mask & !o.mask == 0
     }
 
+    /// The least element.
+    pub fn first(&self) -> Option<u32>
+        ensures least { result ≡ slice_get self.now 0 }
+        ensures bound { IfSome result (λ e. e < ELEMENTS) }
+    {
+        if self.mask == 0 {
+            return None;
+        }
+        Some(self.mask.trailing_zeros())
+    }
+
+    /// The elements below `n`.
+    pub(crate) fn below(n: u32) -> Set
+        requires { n ≤ ELEMENTS }
+        ensures { result ≡ numbers_below n }
+    {
+        Set { mask: (1 << n) - 1 }
+    }
+
     /// The number of elements.
     pub fn len(&self) -> u32
         ensures { result ≡ length self.now }
@@ -144,6 +163,7 @@ mod tests {
         assert_eq!(rt; x.minus(y).mask(), 0b00001);
         assert_eq!(rt; x.with(2).without(0).mask(), 0b01100);
         assert_eq!(rt; (x.has(3), x.has(1)), (true, false));
+        assert_eq!(rt; (y.first(), Set::empty().first()), (Some(1), None));
         assert_eq!(rt; (x.within(y), x.meet(y).within(y)), (false, true));
         assert_eq!(rt;
             (is_before(x, y), is_before(y, x), is_before(x, x)),

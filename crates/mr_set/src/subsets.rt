@@ -24,7 +24,7 @@ pub fn first_subset(n: u32, r: u32) -> Set
     ensures first { IsFirst n r result }
     ensures value { result ≡ numbers_below r }
 {
-    run_of(0, r)
+    Set::below(r)
 }
 
 // The next set of this size after the elements from a place on, among those whose elements begin at any number below.

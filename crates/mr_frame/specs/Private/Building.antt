@@ -60,7 +60,11 @@ IsListedThrough n r P s sets = AreSets n r (λ x. P x × (IsSetBefore x s ⊎ (x
 abbrev pub HasLater : List Edge → List ℕ → ℕ → List ℕ → Type 0
 HasLater places b p x = (q : ℕ) × (e : Edge) × (p < q) × (slice_get places q ≡ Some e) × HasAndNot e.col (slice_index b e.row) x
 
--- those of the sets without such a position, in order
-pub record AreLast (places : List Edge) (b : List ℕ) (p : ℕ) (sets chosen : List (List ℕ)) : Type 0 where
+-- those of the sets that are as P says, in order
+pub record AreChosen (P : List ℕ → Type 0) (sets chosen : List (List ℕ)) : Type 0 where
   pub increasing : IsStrictlySortedBy list_cmp chosen
-  pub exactly : (x : List ℕ) → Contains chosen x ↔ (Contains sets x × ¬ (HasLater places b p x))
+  pub exactly : (x : List ℕ) → Contains chosen x ↔ (Contains sets x × P x)
+
+-- those of the sets without such a position, in order
+abbrev pub AreLast : List Edge → List ℕ → ℕ → List (List ℕ) → List (List ℕ) → Type 0
+AreLast places b p sets chosen = AreChosen (λ x. ¬ (HasLater places b p x)) sets chosen

@@ -1,5 +1,5 @@
 -- set by set
-use Rattle.std.proofs.Common.{List, ℕ, ◌≡◌, ◌+◌, ◌∙◌, [], get_or, length, sym, subst, arith}
+use Rattle.std.proofs.Common.{List, ℕ, ◌≡◌, ◌+◌, ◌∙◌, [], get_or, sym, subst, arith}
 use Rattle.std.proofs.lemmas.List.{get_or_default}
 use Rattle.mr_set.specs.Elements.{IsSet}
 use Rattle.mr_frame.specs.Private.Parts.{IsPartOfSet}

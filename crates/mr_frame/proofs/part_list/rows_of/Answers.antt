@@ -1,6 +1,5 @@
 -- row by row
-use Rattle.std.proofs.Common.{List, ℕ, ◌≡◌, ◌+◌, ◌∙◌, get_or, length, sym, subst, arith}
-use Rattle.std.specs.Prelude.{Contains}
+use Rattle.std.proofs.Common.{List, ℕ, ◌≡◌, ◌+◌, ◌∙◌, length, sym, subst, arith}
 use Rattle.mr_matroid.proofs.Failures.{untrue}
 use Rattle.mr_frame.proofs.Keeping.{AreRowsBelow, rows_same, rows_more}
 use Rattle.mr_frame.proofs.part_list.rows_of.Goals.{then-not-has, else-not-has}

@@ -1,12 +1,13 @@
 -- set by set
 use Rattle.std.proofs.Common.{◌≡◌, [], get_or, sym, subst, ◌∙◌}
 use Rattle.std.proofs.lemmas.List.{get_or_default}
-use Rattle.mr_frame.specs.Private.Building.{AreLast}
-use Rattle.mr_frame.proofs.Lasting.{last_none, last_step}
+use Rattle.mr_frame.specs.Private.Building.{AreLast, HasLater}
+use Rattle.mr_frame.proofs.Chosen.{chosen_none}
+use Rattle.mr_frame.proofs.Lasting.{last_step}
 use Rattle.mr_frame.proofs.set_list.last_of.Goals as goal
 
 pub loop-x-init : goal.loop-x-init
-loop-x-init c = subst (AreLast c.args.places.now c.args.members.now c.args.p []) (sym c.new-list.ensures) (last_none c.args.places.now c.args.members.now c.args.p)
+loop-x-init c = subst (AreLast c.args.places.now c.args.members.now c.args.p []) (sym c.new-list.ensures) (chosen_none (λ x. ¬ (HasLater c.args.places.now c.args.members.now c.args.p x)))
 
 pub loop-x-preserved : goal.loop-x-preserved
 loop-x-preserved c =

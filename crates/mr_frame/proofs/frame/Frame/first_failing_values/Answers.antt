@@ -1,20 +1,32 @@
 -- set by set
-use Rattle.std.proofs.Common.{ℕ, List, [], ◌≡◌, ◌<◌, ◌≤◌, ◌↔◌, ◌∙◌, get_or, length, refl, ap, sym, subst, arith}
-use Rattle.std.specs.Prelude.{Contains, Some, slice_get}
-use Rattle.std.proofs.lemmas.List.{length-map, get_or-map, get_or_default}
-use Rattle.std.proofs.lemmas.List.Elements.{Contains-get_or}
+use Rattle.std.proofs.Common.{ℕ, List, ◌≡◌, ◌<◌, ◌∙◌, get_or, length, refl, ap, sym, subst, arith}
+use Rattle.std.proofs.lemmas.List.{length-map}
 use Rattle.std.proofs.lemmas.Option.{slice_get_read}
-use Rattle.mr_set.specs.Subsets.{IsSetOf}
 use Rattle.mr_frame.specs.Frame.{Framed}
-use Rattle.mr_frame.specs.Test.{NeedsLast}
 use Rattle.mr_frame.specs.declared.part.Part.{Part}
+use Rattle.mr_frame.proofs.Outside.{HasEdge-slice_get}
+use Rattle.mr_frame.proofs.Uniqueness.{place_exchange}
 use Rattle.mr_frame.proofs.Keeping.{kept_now, due_now}
 use Rattle.mr_frame.proofs.Owning.{AreOfFrame, sets_of, parts_of_frame, own_now, due_part, set_here}
-use Rattle.mr_frame.proofs.Firsts.{firsts-none, firsts-more, firsts-all, others_filled}
+use Rattle.mr_frame.proofs.Firsts.{firsts-more, firsts-all, others_filled}
 use Rattle.mr_frame.proofs.frame.Frame.first_failing_values.Goals as goal
 
-pub failing_part-requires-clause-part : goal.failing_part-requires-clause-part
-failing_part-requires-clause-part c =
+pub bounds-deref-place : goal.bounds-deref-place
+bounds-deref-place c =
+    let kept = kept_now c.self.view_is c.self.invariant.0 in
+    let edge = place_exchange c.args.self.now kept.frame c.place-place.result.row c.place-place.result.col (HasEdge-slice_get c.args.self.now.places c.args.p c.place-place.result c.place-place.ensures) in
+    let row = edge.row in
+    let size : length c.args.self.now.basis ≡ c.args.self.now.matroid.rank = kept.frame.basis.basis.0.size in
+    let members : c.deref.result.now ≡ c.args.self.now.basis = c.deref.ensures.0 ∙ c.elements.ensures ∙ ap (λ (f : Framed). f.basis) c.self.view_is in
+    subst (λ (ys : List ℕ). c.place-place.result.row < length ys) (sym members) (omega arith)
+
+pub failing_part-failing-requires-clause-spare : goal.failing_part-failing-requires-clause-spare
+failing_part-failing-requires-clause-spare c =
+    let members : c.deref.result.now ≡ c.args.self.now.basis = c.deref.ensures.0 ∙ c.elements.ensures ∙ ap (λ (f : Framed). f.basis) c.self.view_is in
+    ap (λ (ys : List ℕ). get_or ys c.place-place.result.row 0) members
+
+pub failing_part-failing-requires-clause-part : goal.failing_part-failing-requires-clause-part
+failing_part-failing-requires-clause-part c =
     let kept = kept_now c.self.view_is c.self.invariant.0 in
     let due = due_now c.self.view_is c.self.invariant.1 in
     let lists = own_now c.self.view_is c.self.invariant.2 in
@@ -23,8 +35,8 @@ failing_part-requires-clause-part c =
     (parts_of_frame c.args.self.now c.self.inside.cells.items c.self.inside.tests.items c.self.inside.due.items c.self.inside.parts.items kept due lists c.args.p c.index.result.now c.requires.position c.index.ensures) in
     own.each c.loop-part.part-index c.part-item.result (slice_get_read parts (length parts) c.loop-part.part-index c.part-item.result refl c.loop-part-test.true c.part-item.is)
 
-pub failing_part-requires-clause-set : goal.failing_part-requires-clause-set
-failing_part-requires-clause-set c =
+pub failing_part-failing-requires-clause-set : goal.failing_part-failing-requires-clause-set
+failing_part-failing-requires-clause-set c =
     let kept = kept_now c.self.view_is c.self.invariant.0 in
     let due = due_now c.self.view_is c.self.invariant.1 in
     let lists = own_now c.self.view_is c.self.invariant.2 in
@@ -33,8 +45,8 @@ failing_part-requires-clause-set c =
     (parts_of_frame c.args.self.now c.self.inside.cells.items c.self.inside.tests.items c.self.inside.due.items c.self.inside.parts.items kept due lists c.args.p c.index.result.now c.requires.position c.index.ensures) in
     (due_part c.args.self.now c.args.p parts own c.loop-part.part-index c.part-item.result c.loop-part-test.true c.part-item.is).0
 
-pub failing_part-requires-clause-position : goal.failing_part-requires-clause-position
-failing_part-requires-clause-position c =
+pub failing_part-failing-requires-clause-position : goal.failing_part-failing-requires-clause-position
+failing_part-failing-requires-clause-position c =
     let kept = kept_now c.self.view_is c.self.invariant.0 in
     let due = due_now c.self.view_is c.self.invariant.1 in
     let lists = own_now c.self.view_is c.self.invariant.2 in
@@ -43,8 +55,8 @@ failing_part-requires-clause-position c =
     (parts_of_frame c.args.self.now c.self.inside.cells.items c.self.inside.tests.items c.self.inside.due.items c.self.inside.parts.items kept due lists c.args.p c.index.result.now c.requires.position c.index.ensures) in
     (due_part c.args.self.now c.args.p parts own c.loop-part.part-index c.part-item.result c.loop-part-test.true c.part-item.is).1.needs
 
-pub failing_part-requires-clause-others : goal.failing_part-requires-clause-others
-failing_part-requires-clause-others c =
+pub failing_part-failing-requires-clause-others : goal.failing_part-failing-requires-clause-others
+failing_part-failing-requires-clause-others c =
     let kept = kept_now c.self.view_is c.self.invariant.0 in
     let due = due_now c.self.view_is c.self.invariant.1 in
     let lists = own_now c.self.view_is c.self.invariant.2 in
@@ -61,10 +73,12 @@ loop-part-preserved c =
     let parts : List Part = c.as_slice-part-items.result.now in
     let own : AreOfFrame c.args.self.now c.args.p parts = subst (AreOfFrame c.args.self.now c.args.p) (sym c.as_slice-part-items.ensures)
     (parts_of_frame c.args.self.now c.self.inside.cells.items c.self.inside.tests.items c.self.inside.due.items c.self.inside.parts.items kept due lists c.args.p c.index.result.now c.requires.position c.index.ensures) in
-    let size = length-map parts (λ (q : Part). q.set) in
-    firsts-more c.args.self.now c.args.a.now c.args.p (sets_of parts) own.sorted own.exactly
-    c.loop-part.first c.mark.new.first c.failing_part.result c.part-item.result.set c.loop-part.part-index c.loop-part.invariant (let lt = c.loop-part-test.true in omega arith)
-    (set_here parts c.loop-part.part-index c.part-item.result c.loop-part-test.true c.part-item.is) (c.mark.ensures.size ∙ sym c.loop-part.invariant.len) c.failing_part.ensures c.mark.ensures.values
+    let size = length-map parts (λ (q : Part). q.set) in (
+      firsts-more c.args.self.now c.args.a.now c.args.p (sets_of parts) own.sorted own.exactly
+          c.loop-part.first c.mark.new.first c.failing_part-failing.result c.part-item.result.set c.loop-part.part-index c.loop-part.invariant.0 (let lt = c.loop-part-test.true in omega arith)
+          (set_here parts c.loop-part.part-index c.part-item.result c.loop-part-test.true c.part-item.is) (c.mark.ensures.size ∙ sym c.loop-part.invariant.0.len) c.failing_part-failing.ensures.fails c.mark.ensures.values,
+      c.failing_part-failing.ensures.scratch,
+    )
 
 pub returns : goal.returns
 returns c =
@@ -75,4 +89,4 @@ returns c =
     let own : AreOfFrame c.args.self.now c.args.p parts = subst (AreOfFrame c.args.self.now c.args.p) (sym c.as_slice-part-items.ensures)
     (parts_of_frame c.args.self.now c.self.inside.cells.items c.self.inside.tests.items c.self.inside.due.items c.self.inside.parts.items kept due lists c.args.p c.index.result.now c.requires.position c.index.ensures) in
     let size = length-map parts (λ (q : Part). q.set) in
-    firsts-all c.args.self.now c.args.a.now c.args.p (sets_of parts) own.sorted own.exactly c.loop-part.first c.loop-part.part-index (let end = c.loop-part-test.false in omega arith) c.loop-part.invariant
+    firsts-all c.args.self.now c.args.a.now c.args.p (sets_of parts) own.sorted own.exactly c.loop-part.first c.loop-part.part-index (let end = c.loop-part-test.false in omega arith) c.loop-part.invariant.0

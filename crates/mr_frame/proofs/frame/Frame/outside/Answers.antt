@@ -1,10 +1,8 @@
 -- all rows, and the columns outside of the basis
-use Rattle.std.proofs.Common.{ℕ, List, ◌≡◌, ◌<◌, ◌≤◌, ◌∙◌, ap, sym, subst, arith}
+use Rattle.std.proofs.Common.{ℕ, List, ◌≡◌, ◌<◌, ◌∙◌, ap, sym, subst, arith}
 use Rattle.std.specs.Prelude.{Contains}
-use Rattle.mr_set.specs.Elements.{minus, numbers_below}
 use Rattle.mr_linear.proofs.Pivots.{below_all}
 use Rattle.mr_frame.specs.Frame.{Framed}
-use Rattle.mr_frame.proofs.Keeping.{kept_now}
 use Rattle.mr_frame.proofs.Values.{member_minus, minus_member}
 use Rattle.mr_frame.proofs.frame.Frame.outside.Goals as goal
 
