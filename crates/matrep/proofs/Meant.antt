@@ -21,6 +21,10 @@ pub field_given : (words : List (List ℕ)) (text : List ℕ) (r : Option ℕ) �
 field_given words text (Some q) right given found = (found.0, subst (λ (t : List ℕ). Gives words Field t) found.1 given)
 field_given words text None right given none = let value = given_is_value right.0 words right.1 Field text given in absurd (none value.0 value.1 value.2)
 
+-- where the field is given, the one key that is needed is
+pub has_field : (words : List (List ℕ)) (q : ℕ) → Gives words Field (decimal q) → (key : Key) → key ≡ Field → HasKey words key
+has_field words q given key is = subst (λ (k : Key). HasKey words k) (sym is) (decimal q, given)
+
 -- the value that is given to `order` is the order of a plane
 pub order_given : (words : List (List ℕ)) (text : List ℕ) (r : Option ℕ) → AreRight words → Gives words Order text →
     MatchOption r ((q : ℕ) → IsOrder q → q ≤ PLANE_ORDER → text ≢ decimal q) (λ q. IsOrder q × (q ≤ PLANE_ORDER) × (text ≡ decimal q)) →

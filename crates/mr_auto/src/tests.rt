@@ -9,7 +9,7 @@ use mr_assign::{Assign, AssignList};
 use mr_field::Field;
 use mr_frame::Frame;
 use mr_matroid::Matroid;
-use mr_set::{Set, are_sets_of, binomial};
+use mr_set::{ELEMENTS, binomial, sets_of};
 use std::alloc::{AllocError, Global};
 use std::test::Fail;
 
@@ -67,24 +67,14 @@ fn forms_of(alloc: Global, frame: &Frame) -> Result<AssignList, AllocError>
 
 // The orbits of the matroid with these nonbases over the field of q elements.
 fn solved(alloc: Global, n: u32, r: u32, masks: &[u64], q: u32) -> Result<OrbitList, Fail> {
-    let mut sets = Vec::new(alloc);
-    for mask in masks {
-        sets.push(Set::of_mask(*mask).ok_or("the elements are below 32")?)?;
-    }
-    if n > 32 || r > n || binomial(n, r).is_none() {
+    if n > ELEMENTS || r > n || binomial(n, r).is_none() {
         return Err("the numbers are within the limits".into());
     }
-    if !are_sets_of(n, r, sets.as_slice()) {
-        return Err("the sets are in order".into());
-    }
-    match Matroid::from_nonbases(alloc, n, r, sets.as_slice()) {
-        Err(_) => Err("a matroid".into()),
-        Ok(m) => {
-            let frame = Frame::new(alloc, m, Field::of(q).ok_or("a field")?)?;
-            let forms = forms_of(alloc, &frame)?;
-            Ok(orbits(alloc, &frame, &forms)?)
-        }
-    }
+    let sets = sets_of(alloc, n, r, masks)?.ok_or("sets")?;
+    let m = Matroid::from_nonbases(alloc, n, r, sets.as_slice())?;
+    let frame = Frame::new(alloc, m, Field::of(q).ok_or("a field")?)?;
+    let forms = forms_of(alloc, &frame)?;
+    Ok(orbits(alloc, &frame, &forms)?)
 }
 
 #[test]

@@ -16,5 +16,6 @@ pub mod Words
 pub mod AllAnswers
 pub mod SomeFrame
 pub mod InOrder
+pub mod FormsAndMatrices
 pub mod Steps
 pub mod Sequence

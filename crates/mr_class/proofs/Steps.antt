@@ -32,7 +32,7 @@ use Rattle.mr_class.proofs.Classes.{basis-columns, edge-inside}
 after-represents : (m : Presentation) (w : Grid) (op : RowOp) → Represents w m → IsAllowedOperation w op → Represents (matrix_after w op) m
 after-represents m w op rep allowed = equivalent-represents m w (matrix_after w op) rep (op ∷ [], (allowed, refl))
 
--- the entries matrix_after an operation
+-- the entries after an operation
 after-entries : (w : Grid) (op : RowOp) → Same (height w) w.cols (entry (matrix_after w op)) (entries_after w.field op (entry w))
 after-entries w op = entry-grid_of w.field (height w) w.cols (entries_after w.field op (entry w))
 
@@ -116,7 +116,7 @@ module _ (m : Presentation) (b : List ℕ) (first : IsFirstBasis m b) (taken : L
   pub back-allowed : IsAllowedOperation (matrix_after w (ScaleRow x.row by)) (ScaleCol (get_or b x.row 0) v)
   back-allowed = (place-lt w.cols (height w) b columns x.row (inside x.row x.col next.edge).0, value-lt m b first taken x w is next v value, value-ne m b first taken x w is next v value)
 
-  -- the matrix matrix_after both
+  -- the matrix after both
   abbrev pub end : Grid
   end = matrix_after (matrix_after w (ScaleRow x.row by)) (ScaleCol (get_or b x.row 0) v)
 
@@ -124,11 +124,11 @@ module _ (m : Presentation) (b : List ℕ) (first : IsFirstBasis m b) (taken : L
   mid-height : height (matrix_after w (ScaleRow x.row by)) ≡ height w
   mid-height = height-grid_of w.field (height w) w.cols (entries_after w.field (ScaleRow x.row by) (entry w))
 
-  -- the entries matrix_after the first
+  -- the entries after the first
   abbrev rowed : Entries
   rowed i j = cond (eqb i x.row) (mul w.field by (entry w i j)) (entry w i j)
 
-  -- the entries matrix_after both
+  -- the entries after both
   both-entries : (i j : ℕ) → i < height w → j < w.cols → entry end i j ≡ cond (eqb j (get_or b x.row 0)) (mul w.field v (rowed i j)) (rowed i j)
   both-entries i j l k =
       after-entries (matrix_after w (ScaleRow x.row by)) (ScaleCol (get_or b x.row 0) v) i j (subst (λ n. i < n) (sym mid-height) l) k ∙

@@ -42,7 +42,7 @@ pub fn scale_to_frame(alloc: Global, frame: &Frame, a: &Matrix) -> Result<Scaled
     Ok(Scaled { ops, form })
 }
 
-// Brings the entries at the edges to 1, one matrix_after another.
+// Brings the entries at the edges to 1, one after another.
 fn scale_forest(
     frame: &Frame,
     edges: &[Edge],

@@ -9,7 +9,7 @@ use mr_field::Field;
 use mr_frame::Frame;
 use mr_linear::{Matrix, RowOp};
 use mr_matroid::Matroid;
-use mr_set::{ELEMENTS, Set, binomial, first_subset, next_subset};
+use mr_set::{ELEMENTS, Set, binomial, first_subset, next_subset, sets_of};
 use std::alloc::Global;
 use std::test::Fail;
 
@@ -51,11 +51,8 @@ fn uniform(alloc: Global, n: u32, r: u32) -> Result<Matroid, Fail> {
     if n > ELEMENTS || r > n || binomial(n, r).is_none() {
         return Err("the numbers are within the limits".into());
     }
-    let none: [Set; 0] = [];
-    match Matroid::from_nonbases(alloc, n, r, none.as_slice()) {
-        Err(_) => Err("a matroid".into()),
-        Ok(m) => Ok(m),
-    }
+    let none = sets_of(alloc, n, r, &[])?.ok_or("sets")?;
+    Ok(Matroid::from_nonbases(alloc, n, r, none.as_slice())?)
 }
 
 // Writes an entry where there is one.
@@ -94,30 +91,8 @@ fn entry(a: &Matrix, row: u32, col: u32) -> Option<u8> {
 
 // Makes the operation where it is one on the matrix.
 fn make(a: &mut Matrix, op: RowOp) {
-    let rows = a.rows();
-    let cols = a.cols();
-    let order = a.field().order();
-    match op {
-        RowOp::Swap { i, j } => {
-            if i < rows && j < rows {
-                a.apply(RowOp::Swap { i, j });
-            }
-        }
-        RowOp::ScaleRow { i, by } => {
-            if i < rows && by < order && by != 0 {
-                a.apply(RowOp::ScaleRow { i, by });
-            }
-        }
-        RowOp::AddRow { src, dst, by } => {
-            if src < rows && dst < rows && src != dst && by < order {
-                a.apply(RowOp::AddRow { src, dst, by });
-            }
-        }
-        RowOp::ScaleCol { j, by } => {
-            if j < cols && by < order && by != 0 {
-                a.apply(RowOp::ScaleCol { j, by });
-            }
-        }
+    if a.allows(op) {
+        a.apply(op);
     }
 }
 

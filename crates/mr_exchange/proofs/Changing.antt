@@ -1,4 +1,4 @@
--- What the fields hold state_after each event.
+-- What the fields hold after each event.
 use Rattle.std.proofs.Common.{◌≡◌, ◌≢◌, ℕ, zero, suc, ◌+◌, ◌<◌, List, [], ◌∷◌, ◌++◌, length, get_or, set, Option, Some, refl, sym, ap, ◌∙◌, subst, arith}
 use Rattle.std.proofs.lemmas.List.{get_or_default, get_or-set_other, get_or_append_left, set-append_left}
 use Rattle.mr_nogood.specs.declared.row.Row.{Row}
@@ -20,11 +20,11 @@ use Rattle.mr_exchange.proofs.Bounds.{own_within, cursor_within}
 pub read_pass : (g : Held) (k : ℕ) (p : Pass) → IsLive (state_of g) k → p ≡ get_or g.passes k p → p ≡ pass_at (state_of g) k
 read_pass g k p live read = read ∙ get_or_default g.passes k p spent (within g.passes k live)
 
--- what the fields hold state_after an event that is allowed
+-- what the fields hold after an event that is allowed
 pub then_held : (g old new : Held) (e : Event) → g ≡ old → IsHeld g → IsAllowedEvent (state_of old) e → (IsAllowedEvent (state_of g) e → state_of new ≡ state_after (state_of g) e) → length new.slots ≡ length g.slots → IsHeld new
 then_held g old new e view is may same long = let allowed = subst (λ (h : Held). IsAllowedEvent (state_of h) e) (sym view) may in held_after g new e is allowed (same allowed) long
 
--- the state state_after it, by what was held before
+-- the state after it, by what was held before
 pub then_same : (g old : Held) (t : State) (e : Event) → g ≡ old → IsAllowedEvent (state_of old) e → (IsAllowedEvent (state_of g) e → t ≡ state_after (state_of g) e) → t ≡ state_after (state_of old) e
 then_same g old t e view may same = subst (λ (h : Held). t ≡ state_after (state_of h) e) view (same (subst (λ (h : Held). IsAllowedEvent (state_of h) e) (sym view) may))
 
@@ -37,11 +37,11 @@ pub as_read : {A : Type 0} (xs : List A) (k : ℕ) (v r : A) → v ≡ r → r �
 as_read xs k v r same read = subst (λ x. x ≡ get_or xs k x) (sym same) read
 
 module _ (g : Held) (k : ℕ) (p w : Pass) (read : p ≡ get_or g.passes k p) where
-  -- state_after a claim
+  -- after a claim
   pub claim_same : MayClaim (state_of g) k → w ≡ claimed g.problem.cubes g.claim p → state_of (record g { claim = g.claim + 1; passes = set g.passes k w }) ≡ state_after (state_of g) (Claim k)
   claim_same may new = ap (λ (q : Pass). state_of (record g { claim = g.claim + 1; passes = set g.passes k q })) (new ∙ ap (claimed g.problem.cubes g.claim) (read_pass g k p may.live read))
 
-  -- state_after a node was opened
+  -- after a node was opened
   pub open_same : (node : List ℕ) → MayOpen (state_of g) k node → w ≡ opened g.problem.nodes g.ticket node p → state_of (record g { ticket = g.ticket + 1; passes = set g.passes k w }) ≡ state_after (state_of g) (OpenNode k node)
   open_same node may new = ap (λ (q : Pass). state_of (record g { ticket = g.ticket + 1; passes = set g.passes k q })) (new ∙ ap (opened g.problem.nodes g.ticket node) (read_pass g k p may.live read))
 
@@ -55,7 +55,7 @@ module _ (g : Held) (k : ℕ) (p w : Pass) (read : p ≡ get_or g.passes k p) wh
       let e : p.cursor ≡ (pass_at (state_of g) k).cursor = ap (λ (q : Pass). q.cursor) (read_pass g k p may.live read) in
       found ∙ ap (λ i. get_or g.slots i row) e ∙ sym (in_slots_read g.slots (pass_at (state_of g) k).cursor row (cursor_within g is k may))
 
-  -- state_after a look
+  -- after a look
   pub look_same : (row : Option Row) → IsHeld g → MayLook (state_of g) k → row ≡ get_or g.slots p.cursor row → w ≡ looked g.problem.nodes (λ _. row) p → state_of (record g { passes = set g.passes k w }) ≡ state_after (state_of g) (LookAt k)
   look_same row is may found new =
       ap (λ (q : Pass). state_of (record g { passes = set g.passes k q }))
@@ -67,7 +67,7 @@ module _ (g : Held) (k : ℕ) (p w : Pass) (read : p ≡ get_or g.passes k p) wh
   look_answers row x is may found shown =
       ap Seen (shown ∙ ap (λ (q : Pass). seen q.cursor row) (read_pass g k p may.live read) ∙ ap (seen (pass_at (state_of g) k).cursor) (row_looked_at row is may found))
 
-  -- state_after a row was published
+  -- after a row was published
   pub publish_same : (slot : ℕ) (row : Row) → IsHeld g → MayPublish (state_of g) k slot row → w ≡ published slot p → state_of (record g { passes = set g.passes k w; slots = set g.slots slot (Some row) }) ≡ state_after (state_of g) (Publish k slot row)
   publish_same slot row is may new =
       ap (λ (q : Pass). state_of (record g { passes = set g.passes k q; slots = set g.slots slot (Some row) })) (new ∙ ap (published slot) (read_pass g k p may.live read))
@@ -76,7 +76,7 @@ module _ (g : Held) (k : ℕ) (p w : Pass) (read : p ≡ get_or g.passes k p) wh
       rowed : Pass → Rows → State
       rowed q rows = record { frame = g.frame; problem = g.problem; limit = g.limit; claim = g.claim; ticket = g.ticket; passes = set g.passes k q; rows = rows }
 
--- state_after a split
+-- after a split
 pub split_same : (g : Held) (p q u : Pass) (xs : List Pass) → IsHeld g → p ≡ get_or g.passes 0 p → xs ≡ g.passes ++ u ∷ [] → u ≡ new_pass p.made → q ≡ get_or xs 0 q → state_of (record g { passes = set xs 0 (record q { made = p.made + 1 }) }) ≡ state_after (state_of g) Split
 split_same g p q u xs is read pushed new again =
     let live = is.sound.passes.first in
@@ -125,7 +125,7 @@ module _ (g : Held) (k : ℕ) (x p q w : Pass) (may : MayJoin (state_of g) k) (l
       let lt = within g.passes k may.live in
       first ∙ first_else g.passes k x p may.other ∙ get_or_default g.passes 0 p spent (omega arith)
 
-  -- state_after a join
+  -- after a join
   pub join_same : w ≡ joins p q → state_of (record g { passes = set (set g.passes k x) 0 w }) ≡ state_after (state_of g) (Join k)
   join_same new =
       ap (λ (xs : List Pass). state_of (record g { passes = xs }))

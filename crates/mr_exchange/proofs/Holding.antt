@@ -113,7 +113,7 @@ limit_after s (Publish k slot row) = refl
 limit_after s Split = refl
 limit_after s (Join k) = refl
 
--- a state state_after an event that is allowed is held
+-- a state after an event that is allowed is held
 pub held_after : (g h : Held) (e : Event) → IsHeld g → IsAllowedEvent (state_of g) e → state_of h ≡ state_after (state_of g) e → length h.slots ≡ length g.slots → IsHeld h
 held_after g h e is may same long =
     let frame : h.frame ≡ g.frame = ap (λ (s : State). s.frame) same ∙ frame_after (state_of g) e in

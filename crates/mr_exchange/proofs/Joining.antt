@@ -14,7 +14,7 @@ use Rattle.mr_exchange.proofs.Alters.{HasSlot, owned_by, owner_has, renumbered}
 use Rattle.mr_exchange.proofs.Steps.{is_live, node_more}
 use Rattle.mr_exchange.proofs.Making.{spent_balance}
 
--- the passes state_after the pass k was joined into the first, which is w then
+-- the passes after the pass k was joined into the first, which is w then
 abbrev joined_list : List Pass → ℕ → Pass → List Pass
 joined_list xs k w = set (set xs 0 w) k spent
 

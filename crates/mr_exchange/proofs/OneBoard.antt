@@ -207,7 +207,7 @@ latest_is p i some = at_last p.tickets some i.tickets
 same_slot : (xs ys : List (Option Row)) (j k : ℕ) → slice_get xs j ≡ slice_get ys k → in_slots xs j ≡ in_slots ys k
 same_slot xs ys j k e = rw e refl
 
--- what stands at the other places of a list state_after a change
+-- what stands at the other places of a list after a change
 slice_get-set_other : {A : Type 0} (xs : List A) (k j : ℕ) (x : A) → j ≢ k → slice_get (set xs k x) j ≡ slice_get xs j
 slice_get-set_other [] k j x n = refl
 slice_get-set_other (y ∷ ys) zero zero x n = absurd (n refl)
@@ -226,7 +226,7 @@ in_slots-set rows slot row lt other = eq_cases other slot (λ b. in_slots (set r
     (slice_get-get_or (set rows slot (Some row)) slot None (omega (arith, length-set rows slot (Some row))) ∙ ap Some (get_or-set_same rows slot (Some row) None lt)))
     (λ n. same_slot (set rows slot (Some row)) rows other other (slice_get-set_other rows slot other (Some row) n))
 
--- a board state_after a look at the slot at its cursor
+-- a board after a look at the slot at its cursor
 abbrev pub looked_on : PlainIs → PlainIs
 looked_on p = record p {
   looks = min (p.looks + 1) (LOOKS * p.problem.nodes);
@@ -234,7 +234,7 @@ looked_on p = record p {
   cursor = if p.cursor == latest_of p.tickets then 0 else p.cursor + 1;
 }
 
--- what its pass has and knows state_after it, where it knew all the rows before
+-- what its pass has and knows after it, where it knew all the rows before
 abbrev going : Holding → Rows → Holding
 going h rows = record h {
   looks = min (h.looks + 1) (LOOKS * h.problem.nodes);
@@ -325,7 +325,7 @@ closes p i = record {
   claimed = claimed_is p i;
 }
 
--- the board state_after a claim that finds a cube
+-- the board after a claim that finds a cube
 pub after_cube : (p : PlainIs) → IsPlain p → p.claim_ends ≡ 0 → (n : ℕ) (cubes : List ℕ) → n ≡ length p.cubes → n < p.problem.cubes → cubes ≡ p.cubes ++ n ∷ [] → IsPlain (record p { cubes = cubes })
 after_cube p i none n cubes is lt more = subst (λ (xs : List ℕ). IsPlain (record p { cubes = xs })) (ap (λ (m : ℕ). p.cubes ++ m ∷ []) (sym is) ∙ sym more) (claims_cube p i none (omega arith))
 
@@ -333,7 +333,7 @@ after_cube p i none n cubes is lt more = subst (λ (xs : List ℕ). IsPlain (rec
 pub gains_cube : (p : PlainIs) → IsPlain p → (n : ℕ) (cubes : List ℕ) → n ≡ length p.cubes → n < p.problem.cubes → cubes ≡ p.cubes ++ n ∷ [] → Claimed (plain_holding p) (Some n) (plain_holding (record p { cubes = cubes }))
 gains_cube p i n cubes is lt more = record { low = lt; new = λ has. new_cube p i (subst (Contains p.cubes) is has); is = ap (λ (xs : List ℕ). record (plain_holding p) { cubes = xs }) more }
 
--- the board state_after an opening that finds a ticket
+-- the board after an opening that finds a ticket
 pub after_ticket : (p : PlainIs) → IsPlain p → (node : List ℕ) → CanOpen (plain_holding p) node → (n : ℕ) (tickets : List Ticket) → n ≡ length p.tickets → n < p.problem.nodes → tickets ≡ p.tickets ++ record { slot = n; node = node } ∷ []
     → IsPlain (record p { tickets = tickets })
 after_ticket p i node can n tickets is lt more =
@@ -349,7 +349,7 @@ gains_ticket p i node n tickets is lt more = record {
   is = ap (λ (xs : List Ticket). record (plain_holding p) { tickets = xs }) more;
 }
 
--- the board state_after a publication
+-- the board after a publication
 pub after_row : (p : PlainIs) → IsPlain p → (slot : ℕ) (row : Row) → CanPublish (plain_holding p) slot row → (rows : List (Option Row)) → rows ≡ set p.rows slot (Some row) → IsPlain (record p { rows = rows })
 after_row p i slot row can rows is = subst (λ (xs : List (Option Row)). IsPlain (record p { rows = xs })) (sym is) (publishes p i slot row can)
 
@@ -357,7 +357,7 @@ after_row p i slot row can rows is = subst (λ (xs : List (Option Row)). IsPlain
 pub knows_row : (p : PlainIs) → IsPlain p → (slot : ℕ) (row : Row) → CanPublish (plain_holding p) slot row → (rows : List (Option Row)) → rows ≡ set p.rows slot (Some row) → Published (plain_holding p) slot row (plain_holding (record p { rows = rows }))
 knows_row p i slot row can rows is = ap (λ (xs : List (Option Row)). plain_holding (record p { rows = xs })) is ∙ publish_tells p i slot row can
 
--- the board state_after a look, by the parts that the look changed
+-- the board after a look, by the parts that the look changed
 module _ (p : PlainIs) (i : IsPlain p) (some : p.tickets ≢ []) (found : Option Row) (there : found ≡ in_slots p.rows p.cursor) (looks head cursor latest : ℕ) (more : looks ≡ min (p.looks + 1) (LOOKS * p.problem.nodes)) (loaded : head ≡ head_at found)
     (last : latest ≡ length p.tickets - 1) (moved : cursor ≡ (if p.cursor == latest then 0 else p.cursor + 1)) where
   -- it is the one that the look leaves

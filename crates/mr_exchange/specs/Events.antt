@@ -88,13 +88,13 @@ opened nodes word node p =
     then record p { tickets = p.tickets ++ record { slot = word; node = node } ∷ [] }
     else record p { ticket_ends = p.ticket_ends + 1 }
 
--- the slots that are known state_after a look at this one
+-- the slots that are known after a look at this one
 abbrev pub known_after : ℕ → Option Row → List ℕ → List ℕ
 known_after slot None known = known
 known_after slot (Some row) known = if is_short row then knowing slot known else known
 
 -- A pass that looked at the slot at its cursor. The count of looks rests where no more can be due, and the cursor goes back
--- to 0 state_after the latest ticket.
+-- to 0 after the latest ticket.
 abbrev pub looked : ℕ → Rows → Pass → Pass
 looked nodes rows p = record p {
   known = known_after p.cursor (rows p.cursor) p.known;
@@ -126,7 +126,7 @@ with_row rows slot row other = if other == slot then Some row else rows other
 abbrev pub with_pass : State → ℕ → Pass → State
 with_pass s k p = record s { passes = slice_set s.passes k p }
 
--- the state state_after an event that is allowed
+-- the state after an event that is allowed
 abbrev pub state_after : State → Event → State
 state_after s (Claim k) = record s { claim = s.claim + 1; passes = slice_set s.passes k (claimed s.problem.cubes s.claim (pass_at s k)) }
 state_after s (OpenNode k node) = record s { ticket = s.ticket + 1; passes = slice_set s.passes k (opened s.problem.nodes s.ticket node (pass_at s k)) }
@@ -151,7 +151,7 @@ reply_of s (Publish k slot row) = Done
 reply_of s Split = Done
 reply_of s (Join k) = Done
 
--- the events are allowed one state_after another, and lead from s to t
+-- the events are allowed one after another, and lead from s to t
 abbrev pub Replays : State → List Event → State → Type 0
 Replays s [] t = t ≡ s
 Replays s (e ∷ es) t = IsAllowedEvent s e × Replays (state_after s e) es t

@@ -5,36 +5,13 @@ ghost use Rattle.mr_exchange.specs.Cubes.{IsProblemOf};
 ghost use Rattle.mr_exchange.specs.Board.{new_holding};
 ghost use Rattle.mr_exchange.specs.Private.Trial.{KnowsNone, KnowsOne, LookedOn};
 
+use crate::tests::{fano, row};
 use crate::{AnswerList, Board, CubeAnswer, LOOKS, Look, PlainBoard, Problem, SlotList};
 use mr_assign::{Assign, AssignList};
-use mr_field::Field;
 use mr_frame::Frame;
-use mr_matroid::Matroid;
 use mr_nogood::{Cite, Row, follows};
-use mr_set::{Set, are_sets_of};
 use std::alloc::Global;
 use std::test::Fail;
-
-// The nonbases 013, 024, 056, 125, 146, 236 and 345 of the Fano plane, by their masks.
-const LINES: [u64; 7] = [
-    0b0001011, 0b0010101, 0b1100001, 0b0100110, 0b1010010, 0b1001100, 0b0111000,
-];
-
-// The frame of the Fano plane over three elements. Its free positions are those of row 1 and element 6, of
-// row 2 and element 5, and of row 2 and element 6.
-fn fano(alloc: Global) -> Result<Frame, Fail> {
-    let mut sets = Vec::new(alloc);
-    for mask in LINES {
-        sets.push(Set::of_mask(mask).ok_or("the elements are below 32")?)?;
-    }
-    if !are_sets_of(7, 3, sets.as_slice()) {
-        return Err("the sets are in order".into());
-    }
-    match Matroid::from_nonbases(alloc, 7, 3, sets.as_slice()) {
-        Err(_) => Err("a matroid".into()),
-        Ok(m) => Ok(Frame::new(alloc, m, Field::of(3).ok_or("a field")?)?),
-    }
-}
 
 // The problem of splitting one position.
 fn split_once(frame: &Frame, nodes: u32) -> Option<Problem>
@@ -50,27 +27,6 @@ fn split_once(frame: &Frame, nodes: u32) -> Option<Problem>
         cubes,
         nodes,
     })
-}
-
-// The cite of the set with this mask.
-fn test(mask: u64) -> Cite {
-    match Set::of_mask(mask) {
-        Some(x) => Cite::Test(x),
-        None => Cite::Nothing,
-    }
-}
-
-// With 1 at the positions 0 and 2 each value at 1 makes 345 or 056 fail.
-fn row() -> Row {
-    let mut cites = [Cite::Nothing; 8];
-    cites[0] = test(0b0111000);
-    cites[1] = test(0b1100001);
-    Row {
-        rank: 0,
-        at: 1,
-        clause: Assign::empty().with(0, 1).with(2, 1),
-        cites,
-    }
 }
 
 // Whether the frame has a free position for a node that gives 1 to the first, and the problem splits that one.

@@ -83,7 +83,7 @@ fn read_lines<'a>(
     match read_file(alloc, bytes, 1) {
         Err(e) => Err(e),
         Ok(file) => {
-            match read_sized(alloc, file.1, file.2, field, file.0.rank, file.0.elements) {
+            match read_sized(alloc, field, file.0.rank, file.0.elements, file.1, file.2) {
                 Err(e) => Err(e),
                 Ok(block) => Ok((
                     Found {
@@ -101,11 +101,11 @@ fn read_lines<'a>(
 // The matrix of a block of `r` rows and `n` columns, what follows it, and the number of the next line.
 fn read_sized<'a>(
     alloc: Global,
-    bytes: &'a [u8],
-    line_number: u32,
     field: Field,
     r: u32,
     n: u32,
+    bytes: &'a [u8],
+    line_number: u32,
 ) -> Result<(Matrix, &'a [u8], u32), FileFault>
     requires numbers { line_number + length bytes.now < 2 ^ 32 }
     requires wide { n ≤ ELEMENTS }

@@ -1,43 +1,38 @@
 ghost use Rattle.std.specs.Prelude.{IfOk};
 ghost use Rattle.mr_set.specs.Elements.{IsSet};
+ghost use Rattle.mr_set.specs.Matroid.{IsPresentation};
+ghost use Rattle.mr_matroid.specs.Exchange.{IsWithinLimits};
 
 use super::*;
-use mr_set::{Set, are_sets_of, binomial, is_set_of};
+use mr_set::{ELEMENTS, Set, binomial, is_set_of, sets_of};
 use std::alloc::Global;
 use std::test::Fail;
 
-// What is answered to the sets whose elements are the places of the bits.
+// The sets whose elements are the places of the bits, where they may be the nonbases of a matroid.
+fn sets(alloc: Global, n: u32, r: u32, masks: &[u64]) -> Result<Vec<Set>, Fail>
+    ensures limits { IfOk result (λ sets. IsWithinLimits (record { elements = n; rank = r; nonbases = sets.items })) }
+    ensures sets { IfOk result (λ sets. IsPresentation (record { elements = n; rank = r; nonbases = sets.items })) }
+{
+    if n > ELEMENTS || r > n || binomial(n, r).is_none() {
+        return Err("the numbers are within the limits".into());
+    }
+    Ok(sets_of(alloc, n, r, masks)?.ok_or("the sets are in order")?)
+}
+
+// What is answered to these nonbases.
 fn made(
     alloc: Global,
     n: u32,
     r: u32,
     masks: &[u64],
 ) -> Result<Result<Matroid, MatroidFault>, Fail> {
-    let mut sets = Vec::new(alloc);
-    for mask in masks {
-        sets.push(Set::of_mask(*mask).ok_or("the elements are below 32")?)?;
-    }
-    if n > 32 || r > n || binomial(n, r).is_none() {
-        return Err("the numbers are within the limits".into());
-    }
-    if !are_sets_of(n, r, sets.as_slice()) {
-        return Err("the sets are in order".into());
-    }
+    let sets = sets(alloc, n, r, masks)?;
     Ok(Matroid::from_nonbases(alloc, n, r, sets.as_slice()))
 }
 
-// The table of the sets whose elements are the places of the bits.
+// The table of these sets.
 fn table(alloc: Global, n: u32, r: u32, masks: &[u64]) -> Result<SetTable, Fail> {
-    let mut sets = Vec::new(alloc);
-    for mask in masks {
-        sets.push(Set::of_mask(*mask).ok_or("the elements are below 32")?)?;
-    }
-    if n > 32 || r > n || binomial(n, r).is_none() {
-        return Err("the numbers are within the limits".into());
-    }
-    if !are_sets_of(n, r, sets.as_slice()) {
-        return Err("the sets are in order".into());
-    }
+    let sets = sets(alloc, n, r, masks)?;
     Ok(SetTable::new(alloc, n, r, sets.as_slice())?)
 }
 

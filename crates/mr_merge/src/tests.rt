@@ -21,7 +21,7 @@ use mr_frame::Frame;
 use mr_log::write_log;
 use mr_matroid::Matroid;
 use mr_nogood::{Cite, Row, fails, follows};
-use mr_set::{ELEMENTS, Set, are_sets_of, binomial};
+use mr_set::{ELEMENTS, Set, binomial, sets_of};
 use std::alloc::{AllocError, Global};
 use std::test::Fail;
 
@@ -30,31 +30,16 @@ fn uniform(alloc: Global, n: u32, r: u32, order: u32) -> Result<Frame, Fail> {
     if n > ELEMENTS || r > n || binomial(n, r).is_none() {
         return Err("the numbers are within the limits".into());
     }
-    let none: [Set; 0] = [];
-    match Matroid::from_nonbases(alloc, n, r, none.as_slice()) {
-        Err(_) => Err("a matroid".into()),
-        Ok(m) => Ok(Frame::new(alloc, m, Field::of(order).ok_or("a field")?)?),
-    }
+    let none = sets_of(alloc, n, r, &[])?.ok_or("sets")?;
+    let m = Matroid::from_nonbases(alloc, n, r, none.as_slice())?;
+    Ok(Frame::new(alloc, m, Field::of(order).ok_or("a field")?)?)
 }
 
-// The nonbases 013, 024, 056, 125, 146, 236 and 345 of the Fano plane, by their masks.
-const LINES: [u64; 7] = [
-    0b0001011, 0b0010101, 0b1100001, 0b0100110, 0b1010010, 0b1001100, 0b0111000,
-];
-
-// The frame of the Fano plane over three elements.
+// The frame of the Fano plane over three elements, by the masks of its lines.
 fn fano(alloc: Global) -> Result<Frame, Fail> {
-    let mut sets = Vec::new(alloc);
-    for mask in LINES {
-        sets.push(Set::of_mask(mask).ok_or("the elements are below 32")?)?;
-    }
-    if !are_sets_of(7, 3, sets.as_slice()) {
-        return Err("the sets are in order".into());
-    }
-    match Matroid::from_nonbases(alloc, 7, 3, sets.as_slice()) {
-        Err(_) => Err("a matroid".into()),
-        Ok(m) => Ok(Frame::new(alloc, m, Field::of(3).ok_or("a field")?)?),
-    }
+    let lines = sets_of(alloc, 7, 3, &[11, 21, 97, 38, 82, 76, 56])?.ok_or("sets")?;
+    let plane = Matroid::from_nonbases(alloc, 7, 3, lines.as_slice())?;
+    Ok(Frame::new(alloc, plane, Field::of(3).ok_or("a field")?)?)
 }
 
 // The answer for an assignment of all positions: itself where no set fails under it, else the first that does.

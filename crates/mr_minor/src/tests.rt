@@ -1,6 +1,6 @@
 use super::*;
 use mr_matroid::Matroid;
-use mr_set::{ELEMENTS, Set, are_sets_of, binomial};
+use mr_set::{ELEMENTS, Set, binomial, sets_of};
 use std::alloc::Global;
 use std::test::Fail;
 
@@ -9,16 +9,10 @@ const FANO: [u64; 7] = [11, 21, 97, 38, 82, 76, 56];
 
 // The matroid whose nonbases are the sets of these bits.
 fn matroid(alloc: Global, n: u32, r: u32, masks: &[u64]) -> Result<Matroid, Fail> {
-    let mut sets = Vec::new(alloc);
-    for mask in masks {
-        sets.push(Set::of_mask(*mask).ok_or("the elements are below 32")?)?;
-    }
-    if n > 32 || r > n || binomial(n, r).is_none() {
+    if n > ELEMENTS || r > n || binomial(n, r).is_none() {
         return Err("the numbers are within the limits".into());
     }
-    if !are_sets_of(n, r, sets.as_slice()) {
-        return Err("the sets are in order".into());
-    }
+    let sets = sets_of(alloc, n, r, masks)?.ok_or("sets")?;
     Ok(Matroid::from_nonbases(alloc, n, r, sets.as_slice())?)
 }
 

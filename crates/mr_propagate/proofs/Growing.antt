@@ -3,7 +3,7 @@ use Rattle.std.proofs.Common.{ℕ, ◌+◌, ◌≡◌, ◌≢◌, ◌<◌, ◌�
 use Rattle.std.specs.Prelude.{slice_get}
 use Rattle.std.proofs.lemmas.Bool.{cases_eq, cases_lt}
 use Rattle.std.proofs.lemmas.List.{length_push}
-use Rattle.std.proofs.lemmas.Option.{none-some, slice_get_within}
+use Rattle.std.proofs.lemmas.Option.{none-some, slice_get_within, slice_get_read}
 use Rattle.mr_assign.specs.declared.TheConstants.{POSITIONS}
 use Rattle.mr_nogood.specs.Follows.{Rows}
 use Rattle.mr_propagate.specs.declared.trie.Branch.{Branch}
@@ -213,6 +213,13 @@ more_trans bs mid after first second = record {
 -- one branch more
 pub pushed_length : (bs : List Branch) (p v : ℕ) (pairs : List ℕ) (after : List Branch) → IsPushed bs p v pairs after → length after ≡ length bs + 1
 pushed_length bs p v pairs after push = ap length push.is ∙ length_push bs push.branch
+
+-- a branch that stood there stands there still, as what is read at its place
+pub read_pushed : (bs : List Branch) (p v : ℕ) (pairs : List ℕ) (after : List Branch) (k : ℕ) (b x : Branch) → IsPushed bs p v pairs after → slice_get bs k ≡ Some b → x ≡ get_or after k x → slice_get after k ≡ Some x
+read_pushed bs p v pairs after k b x push there is =
+    let lt = slice_get_within bs k b there in
+    let n = pushed_length bs p v pairs after push in
+    slice_get_read after (length after) k x refl (omega arith) is
 
 module _ (bs : List Branch) (trie : IsTrie bs) (p v : ℕ) (pairs : List ℕ) (small : p < POSITIONS) (some : v ≢ 0) (pushed : List Branch) (push : IsPushed bs p v pairs pushed) (k : ℕ) (b : Branch) (there : slice_get bs k ≡ Some b) where
   -- a branch that hangs under one is its child

@@ -1,4 +1,4 @@
--- The least and the greatest pair of a map, and numbers of pairs.
+-- The least pair of a map.
 use Rattle.std.specs.Prelude.{◌≡◌, ◌≢◌, ℕ, ◌<◌, List, slice_index}
 
 -- p has the value v, and no position before it has one

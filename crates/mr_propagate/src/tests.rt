@@ -1,4 +1,7 @@
-ghost use Rattle.std.specs.Prelude.{◌↔◌, ◌<◌, IsTrue};
+ghost use Rattle.std.specs.Prelude.{◌↔◌, ◌<◌, ◌≤◌, IsTrue, length};
+ghost use Rattle.mr_field.specs.Gf.{order};
+ghost use Rattle.mr_assign.specs.declared.TheConstants.{VALUES};
+ghost use Rattle.mr_frame.specs.Test.{IsAssignmentOf};
 ghost use Rattle.mr_propagate.specs.Index.{IsFilledBelow};
 
 use crate::Index;
@@ -7,37 +10,21 @@ use mr_field::Field;
 use mr_frame::Frame;
 use mr_matroid::Matroid;
 use mr_nogood::{Cite, Row};
-use mr_set::{Set, are_sets_of};
+use mr_set::{Set, sets_of};
 use std::alloc::Global;
 use std::test::Fail;
 
-// The nonbases 013, 024, 056, 125, 146, 236 and 345 of the Fano plane, by their masks.
-const LINES: [u64; 7] = [
-    0b0001011, 0b0010101, 0b1100001, 0b0100110, 0b1010010, 0b1001100, 0b0111000,
-];
-
-// The frame of the Fano plane over three elements. Its free positions are those of row 1 and element 6, of
-// row 2 and element 5, and of row 2 and element 6.
+// The frame of the Fano plane over three elements, by the masks of its lines. Its free positions are those of row 1
+// and element 6, of row 2 and element 5, and of row 2 and element 6.
 fn fano(alloc: Global) -> Result<Frame, Fail> {
-    let mut sets = Vec::new(alloc);
-    for mask in LINES {
-        sets.push(Set::of_mask(mask).ok_or("the elements are below 32")?)?;
-    }
-    if !are_sets_of(7, 3, sets.as_slice()) {
-        return Err("the sets are in order".into());
-    }
-    match Matroid::from_nonbases(alloc, 7, 3, sets.as_slice()) {
-        Err(_) => Err("a matroid".into()),
-        Ok(m) => Ok(Frame::new(alloc, m, Field::of(3).ok_or("a field")?)?),
-    }
+    let lines = sets_of(alloc, 7, 3, &[11, 21, 97, 38, 82, 76, 56])?.ok_or("sets")?;
+    let plane = Matroid::from_nonbases(alloc, 7, 3, lines.as_slice())?;
+    Ok(Frame::new(alloc, plane, Field::of(3).ok_or("a field")?)?)
 }
 
-// The cite of the set with this mask.
-fn test(mask: u64) -> Cite {
-    match Set::of_mask(mask) {
-        Some(x) => Cite::Test(x),
-        None => Cite::Nothing,
-    }
+// The map that gives 1 to position 0.
+fn one() -> Assign {
+    Assign::empty().with(0, 1)
 }
 
 // A row of the clause, with cites for the values 1 and 2.
@@ -53,9 +40,12 @@ fn row(at: u8, clause: Assign, one: Cite, two: Cite) -> Row {
     }
 }
 
-// The map that gives 1 to position 0.
-fn one() -> Assign {
-    Assign::empty().with(0, 1)
+// The cite of the set with this mask.
+fn test(mask: u64) -> Cite {
+    match Set::of_mask(mask) {
+        Some(x) => Cite::Test(x),
+        None => Cite::Nothing,
+    }
 }
 
 // The steps of the refutation of the Fano plane over three elements, with their numbers as slots.
@@ -75,20 +65,19 @@ fn learn(index: &mut Index, slot: u32, row: &Row) -> Result<(), Fail> {
     }
 }
 
+// Whether there is such a value at such a position of an assignment of the frame.
+fn has_value(frame: &Frame, node: &Assign, p: u32, v: u8) -> bool
+    ensures assignment { IsTrue result → IsAssignmentOf frame.now node.now }
+    ensures position { IsTrue result → p < length frame.now.places }
+    ensures value { IsTrue result → (0 < v) × (v < order frame.now.field) }
+    ensures limit { IsTrue result → v ≤ VALUES }
+{
+    p < frame.free() && v != 0 && v < frame.field().order() && frame.is_assignment(node)
+}
+
 // Why the value is excluded, and nothing where it may not be asked.
 fn excluded(index: &Index, frame: &Frame, node: &Assign, p: u32, v: u8) -> Option<Cite> {
-    // The clauses of `order` say that values are within the limit.
-    let order = frame.field().order();
-    if p >= frame.free() {
-        return None;
-    }
-    if v == 0 {
-        return None;
-    }
-    if v >= order {
-        return None;
-    }
-    if !frame.is_assignment(node) {
+    if !has_value(frame, node, p, v) {
         return None;
     }
     if node.get(p) != 0 {
@@ -113,18 +102,7 @@ fn is_filled_below(a: &Assign, p: u32) -> bool
 
 // The same by the answers for all values.
 fn excluded_of_all(index: &Index, frame: &Frame, node: &Assign, p: u32, v: u8) -> Option<Cite> {
-    // The clauses of `order` say that values are within the limit.
-    let order = frame.field().order();
-    if p >= frame.free() {
-        return None;
-    }
-    if v == 0 {
-        return None;
-    }
-    if v >= order {
-        return None;
-    }
-    if !frame.is_assignment(node) {
+    if !has_value(frame, node, p, v) {
         return None;
     }
     if !is_filled_below(node, p) {

@@ -9,41 +9,23 @@ use mr_frame::Frame;
 use mr_matroid::Matroid;
 use mr_nogood::Cite;
 use mr_propagate::Index;
-use mr_set::{Set, are_sets_of};
+use mr_set::sets_of;
 use std::alloc::Global;
 use std::test::Fail;
 
-// The nonbases 013, 024, 056, 125, 146, 236 and 345 of the Fano plane, by their masks.
-const LINES: [u64; 7] = [
-    0b0001011, 0b0010101, 0b1100001, 0b0100110, 0b1010010, 0b1001100, 0b0111000,
-];
-
-// The frame of the Fano plane over three elements. Its free positions are those of row 1 and element 6, of
-// row 2 and element 5, and of row 2 and element 6.
+// The frame of the Fano plane over three elements, by the masks of its lines. Its free positions are those of row 1
+// and element 6, of row 2 and element 5, and of row 2 and element 6.
 fn fano(alloc: Global) -> Result<Frame, Fail> {
-    let mut sets = Vec::new(alloc);
-    for mask in LINES {
-        sets.push(Set::of_mask(mask).ok_or("the elements are below 32")?)?;
-    }
-    if !are_sets_of(7, 3, sets.as_slice()) {
-        return Err("the sets are in order".into());
-    }
-    match Matroid::from_nonbases(alloc, 7, 3, sets.as_slice()) {
-        Err(_) => Err("a matroid".into()),
-        Ok(m) => Ok(Frame::new(alloc, m, Field::of(3).ok_or("a field")?)?),
-    }
+    let lines = sets_of(alloc, 7, 3, &[11, 21, 97, 38, 82, 76, 56])?.ok_or("sets")?;
+    let plane = Matroid::from_nonbases(alloc, 7, 3, lines.as_slice())?;
+    Ok(Frame::new(alloc, plane, Field::of(3).ok_or("a field")?)?)
 }
 
 // The frame of the uniform matroid of rank 2 on four elements. Over more than two elements one position is free.
 fn four_points(alloc: Global, q: u32) -> Result<Frame, Fail> {
-    let sets: Vec<Set> = Vec::new(alloc);
-    if !are_sets_of(4, 2, sets.as_slice()) {
-        return Err("no sets are in order".into());
-    }
-    match Matroid::from_nonbases(alloc, 4, 2, sets.as_slice()) {
-        Err(_) => Err("a matroid".into()),
-        Ok(m) => Ok(Frame::new(alloc, m, Field::of(q).ok_or("a field")?)?),
-    }
+    let none = sets_of(alloc, 4, 2, &[])?.ok_or("sets")?;
+    let points = Matroid::from_nonbases(alloc, 4, 2, none.as_slice())?;
+    Ok(Frame::new(alloc, points, Field::of(q).ok_or("a field")?)?)
 }
 
 // What the search of the one cube of no positions finds, unless no ticket was left.

@@ -1,10 +1,12 @@
 -- The sets of one size among the first n elements, in lexicographic order.
-use Rattle.std.specs.Prelude.{◌≡◌, ℕ, zero, suc, ◌+◌, List, length}
+use Rattle.std.specs.Prelude.{◌≡◌, ℕ, zero, suc, ◌+◌, ◌^◌, ◌<◌, List, length, map, All}
+use Rattle.std.specs.List.Sorted.{IsStrictlySortedBy}
 use Rattle.std.specs.Ordering.{nat_cmp}
 use Rattle.std.specs.Cmp.Lexicographic.{slice_cmp}
 use Rattle.std.specs.declared.cmp.Ordering.{Ordering}
 use Rattle.std.specs.declared.cmp.Ordering.TheVariants.{Less}
-use Rattle.mr_set.specs.Elements.{IsSet}
+use Rattle.mr_set.specs.Elements.{IsSet, elements_below}
+use Rattle.mr_set.specs.declared.TheConstants.{ELEMENTS}
 
 -- how many sets of r elements there are among n
 abbrev pub choose : ℕ → ℕ → ℕ
@@ -39,3 +41,9 @@ pub record IsNext (n : ℕ) (x y : List ℕ) : Type 0 where
 -- no set of the size of x comes after x
 abbrev pub IsLast : ℕ → List ℕ → Type 0
 IsLast n x = (z : List ℕ) → IsSetOf n (length x) z → IsBefore x z → ⊥
+
+-- these numbers are the masks of sets of r of the first n elements, each before the next
+pub record AreMasksOf (n r : ℕ) (masks : List ℕ) : Type 0 where
+  pub bound : All (λ mask. mask < 2 ^ ELEMENTS) masks
+  pub sets : All (IsSetOf n r) (map (elements_below ELEMENTS) masks)
+  pub increasing : IsStrictlySortedBy list_cmp (map (elements_below ELEMENTS) masks)

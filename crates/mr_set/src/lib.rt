@@ -2,6 +2,7 @@
 #![tactic(auto)]
 
 pub mod laws;
+mod listed;
 mod lists;
 mod order;
 mod places;
@@ -9,6 +10,7 @@ mod set;
 mod sizes;
 mod subsets;
 
+pub use listed::sets_of;
 pub use lists::{are_sets_of, is_set_of};
 pub use order::{elements, is_before};
 pub use places::{place_of, subset_at};
