@@ -10,6 +10,7 @@ pub mod Listed
 pub mod LogLength
 pub mod Solved
 pub mod Rechecked
+pub mod Needs
 pub mod Ending
 pub mod Clauses
 pub mod Verdicts
@@ -19,3 +20,4 @@ pub mod OneOrbits
 pub mod OneInput
 pub mod OneAnswer
 pub mod OneEnd
+pub mod Complete

@@ -48,15 +48,15 @@ pub same_field : (f g : Gf) → order f ≡ order g → f ≡ g
 same_field f g same = sym (field_of-order f) ∙ ap (λ (q : ℕ). field_of q) same ∙ field_of-order g
 
 -- the text lists the classes, or the orbits where these are asked for
-abbrev Lists : Bool → Gf → ℕ → Presentation → List ℕ → Type 0
+abbrev pub Lists : Bool → Gf → ℕ → Presentation → List ℕ → Type 0
 Lists false = ListsClasses
 Lists true = ListsOrbits
 
 -- a solve that isn't stopped lists what it found, or refutes
-abbrev Solved : Bool → Gf → ℕ → Presentation → Exit → List ℕ → Type 0
+abbrev pub Solved : Bool → Gf → ℕ → Presentation → Exit → List ℕ → Type 0
 Solved orbits f nodes m exit text = ((exit ≡ Done) × Lists orbits f nodes m text) ⊎ ((exit ≡ Negative) × Refutes f m text)
 
-solved : (f : Gf) (nodes split : ℕ) (orbits : Bool) (m : Presentation) (exit : Exit) (text : List ℕ) → ¬ (IsStopped exit) → Solves f nodes split orbits m exit text → Solved orbits f nodes m exit text
+pub solved : (f : Gf) (nodes split : ℕ) (orbits : Bool) (m : Presentation) (exit : Exit) (text : List ℕ) → ¬ (IsStopped exit) → Solves f nodes split orbits m exit text → Solved orbits f nodes m exit text
 solved f nodes split false m Done text goes lists = inl (refl, lists)
 solved f nodes split true m Done text goes lists = inl (refl, lists)
 solved f nodes split false m Negative text goes refutes = inr (refl, refutes)
@@ -82,10 +82,10 @@ one_listing true f nodes m text line p q =
     let sizes = one_list_of_sizes m f p.leasts q.leasts p.sizes q.sizes p.are_orbits q.are_orbits in
     p.text_is ∙ ap₂ (orbits_text f) leasts sizes ∙ sym q.text_is
 
--- what is listed isn't refuted
-not_refuted : (orbits : Bool) (f : Gf) (nodes : ℕ) (m : Presentation) (text line : List ℕ) → Lists orbits f nodes m text → Refutes f m line → ⊥
-not_refuted false f nodes m text line lists refuted = lists.some (one-answer m f lists.answer [] lists.is_answer refuted.empty)
-not_refuted true f nodes m text line lists refuted = lists.some (no_orbits m f lists.leasts lists.sizes lists.are_orbits refuted.empty)
+-- where something is listed the answer isn't empty
+pub not_empty : (orbits : Bool) (f : Gf) (nodes : ℕ) (m : Presentation) (text : List ℕ) → Lists orbits f nodes m text → IsAnswer m f [] → ⊥
+not_empty false f nodes m text lists empty = lists.some (one-answer m f lists.answer [] lists.is_answer empty)
+not_empty true f nodes m text lists empty = lists.some (no_orbits m f lists.leasts lists.sizes lists.are_orbits empty)
 
 -- a solve has one end, but for the text of a log
 pub one_solved : (f : Gf) (nodes split : ℕ) (orbits : Bool) (m : Presentation) (exit end : Exit) (text line : List ℕ) → ¬ (IsStopped exit) → ¬ (IsStopped end) →
@@ -94,15 +94,15 @@ one_solved f nodes split orbits m exit end text line goes on p q = by (solved f 
   where
     by : Solved orbits f nodes m exit text → Solved orbits f nodes m end line → (exit ≡ end) × ((exit ≡ Negative) ⊎ (text ≡ line))
     by (inl (done, lists)) (inl (also, other)) = (done ∙ sym also, inr (one_listing orbits f nodes m text line lists other))
-    by (inl (done, lists)) (inr (also, refuted)) = absurd (not_refuted orbits f nodes m text line lists refuted)
-    by (inr (negative, refuted)) (inl (also, lists)) = absurd (not_refuted orbits f nodes m line text lists refuted)
+    by (inl (done, lists)) (inr (also, refuted)) = absurd (not_empty orbits f nodes m text lists refuted.empty)
+    by (inr (negative, refuted)) (inl (also, lists)) = absurd (not_empty orbits f nodes m line lists refuted.empty)
     by (inr (negative, refuted)) (inr (also, other)) = (negative ∙ sym also, inl negative)
 
 -- a log is accepted or rejected
-abbrev Checked : Gf → List ℕ → Exit → List ℕ → Type 0
+abbrev pub Checked : Gf → List ℕ → Exit → List ℕ → Type 0
 Checked f bytes exit text = ((exit ≡ Done) × AcceptsLog f bytes text) ⊎ ((exit ≡ Negative) × RejectsLog f bytes text)
 
-checked : (f : Gf) (bytes : List ℕ) (exit : Exit) (text : List ℕ) → Checks f bytes exit text → Checked f bytes exit text
+pub checked : (f : Gf) (bytes : List ℕ) (exit : Exit) (text : List ℕ) → Checks f bytes exit text → Checked f bytes exit text
 checked f bytes Done text accepts = inl (refl, accepts)
 checked f bytes Negative text rejects = inr (refl, rejects)
 checked f bytes (Refused fault) text none = absurd none
@@ -154,10 +154,10 @@ one_confirmed p exit end text line here there =
     (c.2 ∙ ap exit_of same ∙ sym d.2, c.3 ∙ ap text_of same ∙ sym d.3)
 
 -- a matrix has a matroid, or too small a rank
-abbrev Found : Grid → Exit → List ℕ → Type 0
+abbrev pub Found : Grid → Exit → List ℕ → Type 0
 Found a exit text = ((m : Presentation) × IsMatroidOf a m × (exit ≡ Done) × (text ≡ file_text m)) ⊎ ((k : ℕ) × IsRankShort a k × (exit ≡ Refused (RankShort k)) × (text ≡ refusal_text (RankShort k)))
 
-found : (a : Grid) (exit : Exit) (text : List ℕ) → FindsMatroid a exit text → Found a exit text
+pub found : (a : Grid) (exit : Exit) (text : List ℕ) → FindsMatroid a exit text → Found a exit text
 found a Done text (m, is, text_is) = inl (m, is, refl, text_is)
 found a (Refused (RankShort k)) text (short, text_is) = inr (k, short, refl, text_is)
 found a (Refused TooLong) text none = absurd none
@@ -196,7 +196,7 @@ one_found a exit end text line p q = by (found a exit text p) (found a end line 
         (refused ∙ ap (λ (r : ℕ). Refused (RankShort r)) same ∙ sym also, text_is ∙ ap (λ (r : ℕ). refusal_text (RankShort r)) same ∙ sym line_is)
 
 -- a matroid's dual is written
-written : (m : Presentation) (exit : Exit) (text : List ℕ) → WritesDual m exit text → (dual : Presentation) × IsDual m dual × (exit ≡ Done) × (text ≡ file_text dual)
+pub written : (m : Presentation) (exit : Exit) (text : List ℕ) → WritesDual m exit text → (dual : Presentation) × IsDual m dual × (exit ≡ Done) × (text ≡ file_text dual)
 written m Done text (dual, is, text_is) = (dual, is, refl, text_is)
 written m Negative text none = absurd none
 written m (Refused fault) text none = absurd none
@@ -214,12 +214,12 @@ one_dual m exit end text line p q =
     (x.2 ∙ sym y.2, x.3 ∙ ap file_text (one-dual m x.0 y.0 x.1 y.1) ∙ sym y.3)
 
 -- elements are deleted and contracted, or one of the numbers is no element
-abbrev Taken : ℕ → ℕ → Presentation → Exit → List ℕ → Type 0
+abbrev pub Taken : ℕ → ℕ → Presentation → Exit → List ℕ → Type 0
 Taken d c m exit text =
     ((minor : Presentation) × ((e : ℕ) → ¬ (IsStranger d c m e)) × IsMinor m (elements_below BITS d) (elements_below BITS c) minor × (exit ≡ Done) × (text ≡ file_text minor))
     ⊎ ((e : ℕ) × IsStranger d c m e × (exit ≡ Refused (Stranger e)) × (text ≡ refusal_text (Stranger e)))
 
-taken : (d c : ℕ) (m : Presentation) (exit : Exit) (text : List ℕ) → WritesMinor d c m exit text → Taken d c m exit text
+pub taken : (d c : ℕ) (m : Presentation) (exit : Exit) (text : List ℕ) → WritesMinor d c m exit text → Taken d c m exit text
 taken d c m Done text (minor, none, is, text_is) = inl (minor, none, is, refl, text_is)
 taken d c m (Refused (Stranger e)) text (stranger, text_is) = inr (e, stranger, refl, text_is)
 taken d c m (Refused TooLong) text none = absurd none
@@ -250,7 +250,7 @@ one_taken d c m exit end text line p q = by (taken d c m exit text p) (taken d c
         (refused ∙ ap (λ (x : ℕ). Refused (Stranger x)) same ∙ sym also, text_is ∙ ap (λ (x : ℕ). refusal_text (Stranger x)) same ∙ sym line_is)
 
 -- the classes of a plane are counted, unless the search was stopped
-counted : (f : Gf) (exit : Exit) (text : List ℕ) → ¬ (IsStopped exit) → CountsClasses f exit text → (exit ≡ Done) × CountsPlane f text
+pub counted : (f : Gf) (exit : Exit) (text : List ℕ) → ¬ (IsStopped exit) → CountsClasses f exit text → (exit ≡ Done) × CountsPlane f text
 counted f Done text goes counts = (refl, counts)
 counted f (Stopped opened) text goes out = absurd (goes (opened, refl))
 counted f Negative text goes none = absurd none

@@ -143,36 +143,57 @@ module _ (f : Gf) (bytes : List ℕ) where
       one_kind e g (kinds (IsFirstFaultOf (pair_format f) bytes) IsListed e some first) (kinds (IsFirstFaultOf (pair_format f) bytes) IsListed g other second)
 
 -- one exit and one text are due of an input that is one of those read, or at one fault, and never both
-module _ (X : Type 0) (Is : X → Type 0) (IsFault : Fault → Type 0) (one : (x y : X) → Is x → Is y → x ≡ y) (apart : (x : X) (fault : Fault) → Is x → IsFault fault → ⊥) (cause : (a b : Fault) → IsFault a → IsFault b → a ≡ b) where
-  one_of_input : (Due : X → Exit → List ℕ → Type 0) (MayDiffer : Exit → Type 0) (exit end : Exit) (text line : List ℕ) → ((x : X) → Due x exit text → Due x end line → AreOne MayDiffer exit end text line) →
-      OfInput Is IsFault Due exit text → OfInput Is IsFault Due end line → AreOne MayDiffer exit end text line
-  one_of_input Due MayDiffer exit end text line due (inl (x, is, here)) (inl (y, also, there)) = due x here (subst (λ (z : X). Due z end line) (one y x also is) there)
-  one_of_input Due MayDiffer exit end text line due (inl (x, is, here)) (inr (fault, at, exit_is, text_is)) = absurd (apart x fault is at)
-  one_of_input Due MayDiffer exit end text line due (inr (fault, at, exit_is, text_is)) (inl (x, is, here)) = absurd (apart x fault is at)
-  one_of_input Due MayDiffer exit end text line due (inr (a, first, exit_is, text_is)) (inr (b, second, end_is, line_is)) =
+module _ (X : Type 0) (Is : X → Type 0) (IsFault : Fault → Type 0) (one : (x y : X) → Is x → Is y → x ≡ y) (apart : (x : X) (fault : Fault) → Is x → IsFault fault → ⊥) where
+  one_of_input : ((a b : Fault) → IsFault a → IsFault b → a ≡ b) → (Due : X → Exit → List ℕ → Type 0) (MayDiffer : Exit → Type 0) (exit end : Exit) (text line : List ℕ) →
+      ((x : X) → Due x exit text → Due x end line → AreOne MayDiffer exit end text line) → OfInput Is IsFault Due exit text → OfInput Is IsFault Due end line → AreOne MayDiffer exit end text line
+  one_of_input cause Due MayDiffer exit end text line due (inl (x, is, here)) (inl (y, also, there)) = due x here (subst (λ (z : X). Due z end line) (one y x also is) there)
+  one_of_input cause Due MayDiffer exit end text line due (inl (x, is, here)) (inr (fault, at, exit_is, text_is)) = absurd (apart x fault is at)
+  one_of_input cause Due MayDiffer exit end text line due (inr (fault, at, exit_is, text_is)) (inl (x, is, here)) = absurd (apart x fault is at)
+  one_of_input cause Due MayDiffer exit end text line due (inr (a, first, exit_is, text_is)) (inr (b, second, end_is, line_is)) =
       let same : a ≡ b = cause a b first second in
       (exit_is ∙ ap Refused same ∙ sym end_is, inr (text_is ∙ ap refusal_text same ∙ sym line_is))
 
+  -- where it is one of those read, it is what is due of this one
+  due_of_input : (x : X) (Due : X → Exit → List ℕ → Type 0) (exit : Exit) (text : List ℕ) → Is x → OfInput Is IsFault Due exit text → Due x exit text
+  due_of_input x Due exit text is (inl (y, also, due)) = subst (λ (z : X). Due z exit text) (one y x also is) due
+  due_of_input x Due exit text is (inr (fault, at, exit_is, text_is)) = absurd (apart x fault is at)
+
 -- of the file of a matroid
-pub one_of_file : (bytes : List ℕ) (Due : Presentation → Exit → List ℕ → Type 0) (MayDiffer : Exit → Type 0) (exit end : Exit) (text line : List ℕ) → ((m : Presentation) → Due m exit text → Due m end line → AreOne MayDiffer exit end text line) →
-    OfFile bytes Due exit text → OfFile bytes Due end line → AreOne MayDiffer exit end text line
-one_of_file bytes = one_of_input Presentation (IsFileOf bytes) (IsFileFault (IsFileRefusal bytes))
-    (λ m k is also. same_matroid bytes m k (text_of_file bytes m is) (text_of_file bytes k also))
-    (λ m fault is at. no_file_fault (IsFileRefusal bytes) (λ e refused. never_refused bytes m e is refused) fault at)
-    (one_file_fault (IsFileRefusal bytes) (one_refusal bytes))
+module _ (bytes : List ℕ) where
+  -- it is that of one, and at no fault
+  one_file_read : (m k : Presentation) → IsFileOf bytes m → IsFileOf bytes k → m ≡ k
+  one_file_read m k is also = same_matroid bytes m k (text_of_file bytes m is) (text_of_file bytes k also)
+
+  file_apart : (m : Presentation) (fault : Fault) → IsFileOf bytes m → IsFileFault (IsFileRefusal bytes) fault → ⊥
+  file_apart m fault is at = no_file_fault (IsFileRefusal bytes) (λ e refused. never_refused bytes m e is refused) fault at
+
+  pub one_of_file : (Due : Presentation → Exit → List ℕ → Type 0) (MayDiffer : Exit → Type 0) (exit end : Exit) (text line : List ℕ) → ((m : Presentation) → Due m exit text → Due m end line → AreOne MayDiffer exit end text line) →
+      OfFile bytes Due exit text → OfFile bytes Due end line → AreOne MayDiffer exit end text line
+  one_of_file = one_of_input Presentation (IsFileOf bytes) (IsFileFault (IsFileRefusal bytes)) one_file_read file_apart (one_file_fault (IsFileRefusal bytes) (one_refusal bytes))
+
+  pub due_of_file : (m : Presentation) (Due : Presentation → Exit → List ℕ → Type 0) (exit : Exit) (text : List ℕ) → IsFileOf bytes m → OfFile bytes Due exit text → Due m exit text
+  due_of_file = due_of_input Presentation (IsFileOf bytes) (IsFileFault (IsFileRefusal bytes)) one_file_read file_apart
 
 -- of a matroid and a matrix
-pub one_of_pair : (f : Gf) (bytes : List ℕ) (Due : Pair → Exit → List ℕ → Type 0) (MayDiffer : Exit → Type 0) (exit end : Exit) (text line : List ℕ) → ((p : Pair) → Due p exit text → Due p end line → AreOne MayDiffer exit end text line) →
-    OfInput (IsPairOf f bytes) (IsFileFault (IsPairRefusal f bytes)) Due exit text → OfInput (IsPairOf f bytes) (IsFileFault (IsPairRefusal f bytes)) Due end line → AreOne MayDiffer exit end text line
-one_of_pair f bytes = one_of_input Pair (IsPairOf f bytes) (IsFileFault (IsPairRefusal f bytes))
-    (one_pair_text f bytes)
-    (λ p fault is at. no_file_fault (IsPairRefusal f bytes) (λ e refused. pair_never_refused f bytes p e is refused) fault at)
-    (one_file_fault (IsPairRefusal f bytes) (one_pair_refusal f bytes))
+module _ (f : Gf) (bytes : List ℕ) where
+  -- they are at no fault
+  pair_apart : (p : Pair) (fault : Fault) → IsPairOf f bytes p → IsFileFault (IsPairRefusal f bytes) fault → ⊥
+  pair_apart p fault is at = no_file_fault (IsPairRefusal f bytes) (λ e refused. pair_never_refused f bytes p e is refused) fault at
 
--- of a matrix
-pub one_of_matrix : (f : Gf) (bytes : List ℕ) (Due : Grid → Exit → List ℕ → Type 0) (MayDiffer : Exit → Type 0) (exit end : Exit) (text line : List ℕ) → ((a : Grid) → Due a exit text → Due a end line → AreOne MayDiffer exit end text line) →
-    OfInput (IsBlockOf f bytes) (IsMatrixFault (IsMatrixRefusal f bytes)) Due exit text → OfInput (IsBlockOf f bytes) (IsMatrixFault (IsMatrixRefusal f bytes)) Due end line → AreOne MayDiffer exit end text line
-one_of_matrix f bytes = one_of_input Grid (IsBlockOf f bytes) (IsMatrixFault (IsMatrixRefusal f bytes))
-    (one_block f bytes)
-    (λ a fault is at. no_matrix_fault (IsMatrixRefusal f bytes) (λ e refused. block_never_refused f bytes a e is refused) fault at)
-    (one_matrix_fault (IsMatrixRefusal f bytes) (one_matrix_refusal f bytes))
+  pub one_of_pair : (Due : Pair → Exit → List ℕ → Type 0) (MayDiffer : Exit → Type 0) (exit end : Exit) (text line : List ℕ) → ((p : Pair) → Due p exit text → Due p end line → AreOne MayDiffer exit end text line) →
+      OfInput (IsPairOf f bytes) (IsFileFault (IsPairRefusal f bytes)) Due exit text → OfInput (IsPairOf f bytes) (IsFileFault (IsPairRefusal f bytes)) Due end line → AreOne MayDiffer exit end text line
+  one_of_pair = one_of_input Pair (IsPairOf f bytes) (IsFileFault (IsPairRefusal f bytes)) (one_pair_text f bytes) pair_apart (one_file_fault (IsPairRefusal f bytes) (one_pair_refusal f bytes))
+
+  pub due_of_pair : (p : Pair) (Due : Pair → Exit → List ℕ → Type 0) (exit : Exit) (text : List ℕ) → IsPairOf f bytes p → OfInput (IsPairOf f bytes) (IsFileFault (IsPairRefusal f bytes)) Due exit text → Due p exit text
+  due_of_pair = due_of_input Pair (IsPairOf f bytes) (IsFileFault (IsPairRefusal f bytes)) (one_pair_text f bytes) pair_apart
+
+  -- and of a matrix, which is at none either
+  matrix_apart : (a : Grid) (fault : Fault) → IsBlockOf f bytes a → IsMatrixFault (IsMatrixRefusal f bytes) fault → ⊥
+  matrix_apart a fault is at = no_matrix_fault (IsMatrixRefusal f bytes) (λ e refused. block_never_refused f bytes a e is refused) fault at
+
+  pub one_of_matrix : (Due : Grid → Exit → List ℕ → Type 0) (MayDiffer : Exit → Type 0) (exit end : Exit) (text line : List ℕ) → ((a : Grid) → Due a exit text → Due a end line → AreOne MayDiffer exit end text line) →
+      OfInput (IsBlockOf f bytes) (IsMatrixFault (IsMatrixRefusal f bytes)) Due exit text → OfInput (IsBlockOf f bytes) (IsMatrixFault (IsMatrixRefusal f bytes)) Due end line → AreOne MayDiffer exit end text line
+  one_of_matrix = one_of_input Grid (IsBlockOf f bytes) (IsMatrixFault (IsMatrixRefusal f bytes)) (one_block f bytes) matrix_apart (one_matrix_fault (IsMatrixRefusal f bytes) (one_matrix_refusal f bytes))
+
+  pub due_of_matrix : (a : Grid) (Due : Grid → Exit → List ℕ → Type 0) (exit : Exit) (text : List ℕ) → IsBlockOf f bytes a → OfInput (IsBlockOf f bytes) (IsMatrixFault (IsMatrixRefusal f bytes)) Due exit text → Due a exit text
+  due_of_matrix = due_of_input Grid (IsBlockOf f bytes) (IsMatrixFault (IsMatrixRefusal f bytes)) (one_block f bytes) matrix_apart

@@ -130,12 +130,15 @@ Ends words io ReadFault = Keeps io.held io.holds
 Ends words io WriteFault = WritesPart words io
 Ends words io exit = (text : List ℕ) × IsDue words io.left io.rest exit text × Appends io.held io.holds text
 
--- A fault of a device comes only where that device's count of faults rose, and no count falls.
+-- A fault of a device comes only where that device's count of faults rose, no count falls, and the count of a device whose fault
+-- the exit isn't stays.
 pub record HasCauses (read read_after written written_after : ℕ) (exit : Exit) : Type 0 where
   pub read_fault : exit ≡ ReadFault → Rose read read_after
   pub write_fault : exit ≡ WriteFault → Rose written written_after
   pub input_count : read ≤ read_after
   pub output_count : written ≤ written_after
+  pub input_steady : exit ≢ ReadFault → read_after ≡ read
+  pub output_steady : exit ≢ WriteFault → written_after ≡ written
 
 -- Whatever the exit, no more than one byte beyond the command's limit is taken; and no more than the limit where a read failed.
 pub record TakesLittle (words : List (List ℕ)) (old new : Option (List ℕ)) (exit : Exit) : Type 0 where

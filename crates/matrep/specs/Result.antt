@@ -3,6 +3,7 @@ use Rattle.std.specs.Prelude.{◌≡◌, ◌⊎◌, ℕ, ◌<◌, ◌≤◌, Lis
 use Rattle.mr_field.specs.Gf.{Gf, order}
 use Rattle.mr_set.specs.Matroid.{Presentation}
 use Rattle.mr_file.specs.File.{IsFileOf}
+use Rattle.mr_file.specs.declared.TheConstants.{FILE_BYTES}
 use Rattle.mr_file.specs.Reading.{IsFileRefusal}
 use Rattle.mr_file.specs.declared.fault.FileFault.{FileFault}
 use Rattle.mr_file.specs.declared.fault.FileFault.TheVariants as file
@@ -14,7 +15,7 @@ use Rattle.mr_matrix.specs.declared.fault.MatrixFault.TheVariants as matrix
 use Rattle.matrep.specs.Texts.{refusal_text}
 use Rattle.matrep.specs.Solving.{Solves}
 use Rattle.matrep.specs.Answering.{Checks, Confirms, FindsMatroid, WritesDual, WritesMinor, CountsClasses}
-use Rattle.matrep.specs.declared.TheConstants.{FILE_BYTES, LOG_BYTES}
+use Rattle.matrep.specs.declared.TheConstants.{LOG_BYTES}
 use Rattle.matrep.specs.declared.words.Command.{Command}
 use Rattle.matrep.specs.declared.words.Command.TheVariants.{Solve, Check, Confirm, MatroidOf, Dual, Minor, Plane}
 use Rattle.matrep.specs.declared.outcome.Exit.{Exit}

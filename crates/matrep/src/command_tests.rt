@@ -1,9 +1,10 @@
+use crate::PLANE_ORDER;
 use crate::matrices::{confirm_bytes, matroid_bytes};
 use crate::minors::{dual_bytes, minor_bytes};
 use crate::outcome::Outcome;
 use crate::planes::plane_text;
-use crate::{FILE_BYTES, PLANE_ORDER};
 use mr_field::Field;
+use mr_file::FILE_BYTES;
 use std::alloc::Global;
 use std::test::Fail;
 

@@ -4,6 +4,7 @@
 mod check;
 #[cfg(test)]
 mod command_tests;
+mod ends;
 mod input;
 mod laws;
 mod listing;
@@ -33,9 +34,6 @@ use std::alloc::{AllocError, Global};
 use std::env::{Env, FillError};
 use std::io;
 use std::process::ExitCode;
-
-/// The most bytes of a matroid file.
-pub const FILE_BYTES: usize = 1048576;
 
 /// The most bytes of a log.
 pub const LOG_BYTES: usize = 268435456;

@@ -11,11 +11,11 @@ ghost use Rattle.matrep.specs.Result.{OfInput, IsFileFault, IsMatrixFault};
 ghost use Rattle.matrep.specs.Texts.{confirmed_text, differs_text};
 ghost use Rattle.matrep.specs.Answering.{Confirms, FindsMatroid};
 
-use crate::FILE_BYTES;
 use crate::input::{file_of, refused_file};
 use crate::outcome::{Exit, Fault, Outcome};
 use crate::refusal::refused;
 use mr_field::Field;
+use mr_file::FILE_BYTES;
 use mr_linear::Matrix;
 use mr_matrix::{Confirm, MatrixFault, OfFault, Pair, confirm, matroid_of, read_matrix, read_pair};
 use mr_set::Set;

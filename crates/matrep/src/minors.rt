@@ -2,11 +2,10 @@ ghost use Rattle.std.specs.Prelude.{◌≤◌, length, IfOk};
 ghost use Rattle.matrep.specs.Result.{OfFile};
 ghost use Rattle.matrep.specs.Answering.{WritesDual, WritesMinor};
 
-use crate::FILE_BYTES;
 use crate::input::{file_of, refused_file};
 use crate::outcome::{Fault, Outcome};
 use crate::refusal::refused;
-use mr_file::read_matroid;
+use mr_file::{FILE_BYTES, read_matroid};
 use mr_matroid::Matroid;
 use mr_minor::{MinorFault, dual, minor};
 use std::alloc::{AllocError, Global};

@@ -11,7 +11,7 @@ use crate::searching::{Searched, search_frame};
 use mr_exchange::NODES;
 use mr_field::Field;
 use mr_frame::Frame;
-use mr_matrix::{matroid_of, plane_matrix};
+use mr_matrix::{OfFault, matroid_of, plane_matrix};
 use mr_matroid::Matroid;
 use mr_text::Text;
 use std::alloc::{AllocError, Global};
@@ -30,7 +30,11 @@ pub fn plane_text(alloc: Global, q: u8) -> Result<Outcome, AllocError>
     let _rows = a.rows();
     match matroid_of(alloc, &a) {
         Ok(m) => count(alloc, field, m),
-        Err(_) => Err(AllocError),
+        Err(fault) => match fault {
+            // The rank of a plane is three.
+            OfFault::RankShort { .. } => unreachable!(),
+            OfFault::Memory => Err(AllocError),
+        },
     }
 }
 

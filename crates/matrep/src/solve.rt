@@ -6,13 +6,12 @@ ghost use Rattle.mr_exchange.specs.declared.TheConstants.{NODES, SPLIT};
 ghost use Rattle.matrep.specs.Result.{OfFile};
 ghost use Rattle.matrep.specs.Solving.{Solves};
 
-use crate::FILE_BYTES;
 use crate::input::refused_file;
 use crate::listing::{list_classes, list_orbits, stopped};
 use crate::outcome::{Exit, Outcome};
 use crate::searching::{Searched, search_frame};
 use mr_field::Field;
-use mr_file::read_matroid;
+use mr_file::{FILE_BYTES, read_matroid};
 use mr_frame::Frame;
 use mr_log::{Log, write_log};
 use mr_matroid::Matroid;

@@ -1,9 +1,10 @@
+use crate::LOG_BYTES;
 use crate::check::check_bytes;
 use crate::outcome::Outcome;
 use crate::solve::solve_one;
-use crate::{FILE_BYTES, LOG_BYTES};
 use mr_exchange::{NODES, SPLIT};
 use mr_field::Field;
+use mr_file::FILE_BYTES;
 use std::alloc::Global;
 use std::test::Fail;
 

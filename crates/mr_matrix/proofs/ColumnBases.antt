@@ -29,7 +29,7 @@ abbrev pub IsColumnBasis : Grid → (ℕ → Bool) → Type 0
 IsColumnBasis a t = OnlyZero a.field (height a) every a.cols (entry a) t × (count a.cols t ≡ height a)
 
 -- only the columns that there are count
-only_zero-agree : (a : Grid) (x y : ℕ → Bool) → Agree a.cols x y → OnlyZero a.field (height a) every a.cols (entry a) x → OnlyZero a.field (height a) every a.cols (entry a) y
+pub only_zero-agree : (a : Grid) (x y : ℕ → Bool) → Agree a.cols x y → OnlyZero a.field (height a) every a.cols (entry a) x → OnlyZero a.field (height a) every a.cols (entry a) y
 only_zero-agree a x y agree h = independent-OnlyZero a.field (height a) every a.cols (entry a) y (λ d.
     OnlyZero-independent a.field (height a) every a.cols (entry a) x h
     (dependent-same a.field (height a) a.cols every every (entry a) (entry a) y x (λ i l. refl) (λ i j l m. refl) (λ j l. sym (agree j l)) d))

@@ -13,3 +13,4 @@ pub mod PlanePoints
 pub mod PlaneRows
 pub mod BlockLaws
 pub mod Single
+pub mod PlaneRank

@@ -54,7 +54,7 @@ one-confirmation m a (Differs x) Confirmed h g = absurd (representation-same m a
 one-confirmation m a (Differs x) (Differs y) h g = ap (λ z. Differs z) (same-from_unordered x y (λ less. g.least x h.subset h.differs less) (λ less. h.least y g.subset g.differs less))
 
 -- there are n numbers below n
-length-below : (n : ℕ) → length (numbers_below n) ≡ n
+pub length-below : (n : ℕ) → length (numbers_below n) ≡ n
 length-below zero = refl
 length-below (suc n) = let rest = length-below n in let sum = length-append (numbers_below n) (n ∷ []) in omega arith
 
@@ -67,7 +67,7 @@ at-below (suc n) k l = ⊎_elim
     (cases_eq k n)
 
 -- an entry by the columns
-entry-from_columns : (a : Grid) (i j : ℕ) → i < height a → j < a.cols → get_or (get_or (columns a) j []) i 0 ≡ entry a i j
+pub entry-from_columns : (a : Grid) (i j : ℕ) → i < height a → j < a.cols → get_or (get_or (columns a) j []) i 0 ≡ entry a i j
 entry-from_columns a i j l m =
     ap (λ (w : List ℕ). get_or w i 0) (get_or-map (column a) (numbers_below a.cols) j 0 [] (let size = length-below a.cols in omega arith) ∙ ap (column a) (at-below a.cols j m))
     ∙ get_or-map (λ k. entry a k j) (numbers_below (height a)) i 0 0 (let size = length-below (height a) in omega arith) ∙ ap (λ k. entry a k j) (at-below (height a) i l)

@@ -47,6 +47,10 @@ OneConfirmation = (m : Presentation) (a : Grid) (c e : Confirm) → IsConfirmati
 abbrev pub OnePlane : Type 0
 OnePlane = (f : Gf) (a b : Grid) → IsPlane f a → IsPlane f b → a ≡ b
 
+-- the rank of a plane's matrix is its number of rows
+abbrev pub PlanesHaveFullRank : Type 0
+PlanesHaveFullRank = (f : Gf) (a : Grid) → IsPlane f a → IsColumnRank a (height a)
+
 -- a text is the block of one matrix
 abbrev pub OneBlock : Type 0
 OneBlock = (f : Gf) (bytes : List ℕ) (a b : Grid) → IsBlockOf f bytes a → IsBlockOf f bytes b → a ≡ b

@@ -1,6 +1,6 @@
 //! The laws of the definitions, each the contract of a function without a body.
 
-ghost use Rattle.mr_matrix.specs.Laws.{NoDifferenceIsEnough, RepresentationsDoNotDiffer, MatricesRepresentTheirMatroids, MatricesHaveMatroids, OneMatroid, OneConfirmation, OnePlane, OneBlock, OneMatrixRefusal, BlocksAreNotRefused, OnePair, PairsAreNotRefused};
+ghost use Rattle.mr_matrix.specs.Laws.{NoDifferenceIsEnough, RepresentationsDoNotDiffer, MatricesRepresentTheirMatroids, MatricesHaveMatroids, OneMatroid, OneConfirmation, OnePlane, PlanesHaveFullRank, OneBlock, OneMatrixRefusal, BlocksAreNotRefused, OnePair, PairsAreNotRefused};
 
 /// A matrix that differs from a matroid at no set of the rank's size represents it.
 pub fn no_difference_is_enough()
@@ -35,6 +35,11 @@ pub fn there_is_one_confirmation()
 /// A field has one plane.
 pub fn there_is_one_plane()
     ensures { OnePlane }
+{}
+
+/// The rank of a plane's matrix is its number of rows, three.
+pub fn planes_have_full_rank()
+    ensures { PlanesHaveFullRank }
 {}
 
 /// A text is the block of one matrix.

@@ -1,6 +1,7 @@
 -- what is told of the matroid of the plane's matrix
-use Rattle.std.proofs.Common.{◌∙◌}
+use Rattle.std.proofs.Common.{◌∙◌, ap, Err}
 use Rattle.mr_field.specs.Gf.{Gf}
+use Rattle.mr_matrix.proofs.PlaneRank.{plane_not_short}
 use Rattle.matrep.specs.Answering.{CountsClasses}
 use Rattle.matrep.proofs.Inputs.{over_field}
 use Rattle.matrep.proofs.Counted.{few_triples}
@@ -15,3 +16,7 @@ returns-in-Ok c =
 
 pub count-requires : goal.count-requires
 count-requires c = record { matrix = c.in_ok-a.a; plane = c.in_ok-a.ensures; of_matrix = c.in-Ok.ensures.ok }
+
+-- the rank of a plane isn't short
+pub unreachable-requires-in-RankShort : goal.unreachable-requires-in-RankShort
+unreachable-requires-in-RankShort c = plane_not_short _ _ c.in_ok-a.ensures c.in-RankShort.rank ((c.in-Err.ensures.rank c.in-RankShort.rank).0 (ap Err c.in-RankShort.is))
