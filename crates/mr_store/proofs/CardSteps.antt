@@ -1,20 +1,22 @@
 -- What a card is after an opening, a split and a join.
-use Rattle.std.proofs.Common.{◌≡◌, ℕ, ◌+◌, ◌-◌, ◌<◌, if◌then◌else◌, List, [], ◌∷◌, ◌++◌, length, length-append, get_or, refl, sym, ap, ◌∙◌, subst, arith}
+use Rattle.std.proofs.Common.{◌≡◌, ℕ, ◌+◌, ◌-◌, ◌<◌, ◌≤◌, if◌then◌else◌, List, [], ◌∷◌, ◌++◌, length, length-append, get_or, Option, Some, None, refl, sym, ap, ◌∙◌, subst, arith}
+use Rattle.std.specs.Prelude.{nat_lt}
 use Rattle.std.proofs.lemmas.List.{get_or_push}
 use Rattle.atomic_table.specs.Table.{Me, Step}
 use Rattle.atomic_table.specs.Seated.{TableId}
 use Rattle.mr_exchange.specs.declared.problem.Problem.{Problem}
 use Rattle.mr_exchange.specs.declared.ticket.Ticket.{Ticket}
-use Rattle.mr_exchange.specs.declared.event.Event.TheVariants.{OpenNode, Split}
+use Rattle.mr_exchange.specs.declared.event.Event.TheVariants.{Claim, OpenNode, Split}
+use Rattle.mr_exchange.specs.declared.event.Reply.TheVariants.{Cube, Ticket as Drawn}
 use Rattle.mr_exchange.specs.State.{Pass, State, slots_of, latest_of}
 use Rattle.mr_exchange.specs.Events.{opened, state_after}
 use Rattle.mr_exchange.proofs.Totals.{lt_cases}
 use Rattle.mr_exchange.proofs.Lookups.{slots_of-append, length-slots_of}
 use Rattle.mr_store.specs.Seats.{Seen, view_made, view_new, view_joined}
-use Rattle.mr_store.specs.Steps.{IsShownIn, Opens}
-use Rattle.mr_store.specs.Cards.{StoreIs, CardIs, store_of, mark_of}
+use Rattle.mr_store.specs.Steps.{IsShownIn, Happened, Claims, Opens}
+use Rattle.mr_store.specs.Cards.{StoreIs, CardIs, store_of, mark_of, IsEvent}
 use Rattle.mr_store.specs.Private.Cards.{IsCard}
-use Rattle.mr_store.proofs.Cards.{card_after}
+use Rattle.mr_store.proofs.Cards.{card, card_after, event_of}
 use Rattle.mr_store.proofs.NewCards.{split_left, split_right}
 
 -- the latest ticket is the one that was gained last
@@ -24,6 +26,23 @@ latest_of-push tickets t =
     let slots = length-slots_of tickets in
     let last : length (slots_of tickets) ≡ length (tickets ++ t ∷ []) - 1 = omega arith in
     ap (λ (xs : List ℕ). get_or xs (length (tickets ++ t ∷ []) - 1) 0) (slots_of-append tickets (t ∷ [])) ∙ get_or_push (slots_of tickets) t.slot 0 (length (tickets ++ t ∷ []) - 1) last
+
+-- a number below a count is answered
+pub answer_below : (found count : ℕ) → found < count → Some found ≡ (if nat_lt found count then Some found else None)
+answer_below found count lt = lt_cases found count (λ b. Some found ≡ (if b then Some found else None)) (λ _. refl) (λ le. absurd (omega arith))
+
+-- and another isn't
+pub answer_past : (found count : ℕ) → count ≤ found → None ≡ (if nat_lt found count then Some found else None)
+answer_past found count le = lt_cases found count (λ b. None ≡ (if b then Some found else None)) (λ lt. absurd (omega arith)) (λ _. refl)
+
+-- a claim is the event, with this answer
+pub claimed_event : (id other : TableId) (step : Step (Unit {0})) (m n : Me (Unit {0}) Seen) (found : ℕ) (answer : Option ℕ) → Claims step m found n → answer ≡ (if nat_lt found m.0.setting.problem.cubes then Some found else None) → IsEvent (card id m.0) (Claim m.0.pass.number) (Cube answer) (card other n.0)
+claimed_event id other step m n found answer told is = event_of id other m.0 n.0 (Claim m.0.pass.number) (Cube answer) (subst (λ (a : Option ℕ). Happened m.0 (Claim m.0.pass.number) (Cube a) n.0) (sym is) told.event)
+
+-- and so is an opening
+pub opened_event : (id other : TableId) (node : List ℕ) (step : Step (Unit {0})) (m n : Me (Unit {0}) Seen) (found : ℕ) (answer : Option ℕ) → Opens node step m found n → answer ≡ (if nat_lt found m.0.setting.problem.nodes then Some found else None)
+    → IsEvent (card id m.0) (OpenNode m.0.pass.number node) (Drawn answer) (card other n.0)
+opened_event id other node step m n found answer told is = event_of id other m.0 n.0 (OpenNode m.0.pass.number node) (Drawn answer) (subst (λ (a : Option ℕ). Happened m.0 (OpenNode m.0.pass.number node) (Drawn a) n.0) (sym is) told.event)
 
 -- an opening leaves the cursor
 opened_cursor : (nodes word : ℕ) (node : List ℕ) (p : Pass) → (opened nodes word node p).cursor ≡ p.cursor

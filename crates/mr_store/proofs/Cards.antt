@@ -1,5 +1,5 @@
 -- What a card is after each step, and what it tells.
-use Rattle.std.proofs.Common.{◌≡◌, ℕ, ◌+◌, ◌<◌, IsTrue, List, [], length, Option, Some, sym, ap, ◌∙◌, subst, arith}
+use Rattle.std.proofs.Common.{◌≡◌, ℕ, ◌+◌, ◌≤◌, ◌==◌, IsTrue, List, [], length, count_by, Contains, Option, Some, IsSome, refl, sym, ap, ◌∙◌, subst, arith}
 use Rattle.atomic_table.specs.Table.{Me}
 use Rattle.atomic_table.specs.Seated.{TableId}
 use Rattle.mr_nogood.specs.declared.row.Row.{Row}
@@ -10,16 +10,18 @@ use Rattle.mr_exchange.specs.declared.event.Reply.{Reply}
 use Rattle.mr_exchange.specs.declared.event.Reply.TheVariants.{Cube, Ticket as Drawn, Seen as Looks, Done}
 use Rattle.mr_exchange.specs.declared.event.Look.{Look}
 use Rattle.mr_exchange.specs.State.{Pass, State, pass_at, latest_of, known_rows}
-use Rattle.mr_exchange.specs.Events.{state_after}
-use Rattle.mr_exchange.specs.Board.{Holding, holding_in, holding_of, IsKnownRow, BoardFacts, Claimed, Opened, Looked, Published}
+use Rattle.mr_exchange.specs.Events.{state_after, seen}
+use Rattle.mr_exchange.specs.Board.{Holding, holding_of, BoardFacts, Claimed, Opened, Looked, Published}
 use Rattle.mr_exchange.specs.Acting.{ActsAsBoard}
+use Rattle.mr_exchange.proofs.Lookups.{within}
 use Rattle.mr_exchange.proofs.OnePass.{passes_have_facts}
-use Rattle.mr_exchange.proofs.Holdings.{known_row_of, facts_of, passes_act_as_boards}
+use Rattle.mr_exchange.proofs.Holdings.{known_there, known_row_of, facts_of, passes_act_as_boards}
 use Rattle.mr_store.specs.Seats.{Setting, Seen, word_at}
 use Rattle.mr_store.specs.Steps.{IsShownIn, Happened}
-use Rattle.mr_store.specs.Cards.{CardIs, held_by, IsPassOf, IsEvent, HasWhole, HoldingFacts, CardFacts}
+use Rattle.mr_store.specs.Cards.{CardIs, held_by, IsThere, IsPassOf, IsEvent, HasWhole, HoldingFacts, CardFacts}
 use Rattle.mr_store.specs.Private.Cards.{IsCard}
-use Rattle.mr_store.proofs.Showing.{holding_shown}
+use Rattle.mr_store.proofs.Finding.{known_told}
+use Rattle.mr_store.proofs.Showing.{holding_shown, told_there}
 
 -- the card of a seat
 abbrev pub card : TableId → Seen → CardIs
@@ -36,11 +38,12 @@ pass_of id s v i = record {
   made = ap (λ (p : Pass). p.made) i.pass;
   joined = ap (λ (p : Pass). p.joined) i.pass;
   holding = holding_shown s v i;
+  there = told_there s v i;
 }
 
 -- a step is the event of the pass
 pub event_of : (id other : TableId) (v w : Seen) (e : Event) (reply : Reply) → Happened v e reply w → IsEvent (card id v) e reply (card other w)
-event_of id other v w e reply h = record { state = h.state; before = pass_of id h.state v h.before; allowed = h.allowed; reply = h.reply; next = pass_of other (state_after h.state e) w h.next }
+event_of id other v w e reply h = record { state = h.state; before = pass_of id h.state v h.before; allowed = h.allowed; reply = h.reply; next = pass_of other (state_after h.state e) w h.next; stays = h.stays; tells = h.tells }
 
 -- the pass of a seat is live
 pub live_of : (s : State) (v : Seen) → IsShownIn s v → IsTrue v.pass.live
@@ -61,9 +64,24 @@ pass_facts s c i =
         nodes = f.nodes;
         known = λ slot row is. known_row_of s (pass_at s k) slot row i.sound f is;
       });
+      number = (let low = within s.passes k i.live in let few = i.sound.passes.few in let limit = ap (λ (g : Setting). g.limit) i.setting in omega arith);
+      made = λ first. (
+          let made : (pass_at s 0).made ≡ c.seen.pass.made = subst (λ n. (pass_at s n).made ≡ c.seen.pass.made) first i.made in
+          let all = i.sound.passes.made in let few = i.sound.passes.few in let limit = ap (λ (g : Setting). g.limit) i.setting in omega arith);
+      joined = λ n has. (let a = f.joined n (subst (λ (xs : List ℕ). Contains xs n) (sym i.joined) has) in let made = i.made in (a.0, omega arith));
+      joined_once = subst (λ (xs : List ℕ). (n : ℕ) → count_by (λ x. x == n) xs ≤ 1) i.joined f.joined_once;
+      others = λ other. sym i.joined ∙ i.sound.passes.others k other;
+      claim_ends = (let most = f.claim_ends in let ends = ap (λ (h : Holding). h.claim_ends) i.holding in let long = ap length i.joined in omega arith);
+      ticket_ends = (let most = f.ticket_ends in let ends = ap (λ (h : Holding). h.ticket_ends) i.holding in let long = ap length i.joined in omega arith);
+      there = known_told c.seen;
       board = λ alone. subst BoardFacts i.holding (facts_of s k i.frame i.problem i.sound i.live (i.joined ∙ alone));
       whole = λ first all. subst HasWhole i.holding (let w = f.whole (i.sound.passes.numbers k i.live ∙ first) (ap (λ (xs : List ℕ). 1 + length xs) i.joined ∙ all ∙ sym i.made) in
           record { cubes = w.cubes; all_cubes = w.claim_end; tickets = w.tickets; all_tickets = w.ticket_end });
+      rows = λ first all slot row has. (
+          let w = f.whole (i.sound.passes.numbers k i.live ∙ first) (ap (λ (xs : List ℕ). 1 + length xs) i.joined ∙ all ∙ sym i.made) in
+          let at = i.there slot row has in
+          let known : known_rows s (pass_at s k) slot ≡ s.rows slot = known_there s (pass_at s k) slot ((w.rows slot).0 (subst IsSome (sym at) refl)) in
+          subst (λ (h : Holding). h.known slot ≡ Some row) i.holding (known ∙ at));
     }
 
 -- what holds of a card
@@ -81,6 +99,18 @@ card_after id other problem cursor next latest last m n same c none_held s shown
   cursor_is = cursor_is;
   latest_is = latest_is;
 }
+
+-- the pass of a state before an event has the cursor of the card
+cursor_in : (s : State) (c : CardIs) → IsPassOf s c → (pass_at s c.seen.pass.number).cursor ≡ c.seen.pass.cursor
+cursor_in s c i = ap (λ (h : Holding). h.cursor) i.holding
+
+-- a look at a slot in which a row is there shows that row
+pub look_shows : (c d : CardIs) (look : Look) → IsEvent c (LookAt c.seen.pass.number) (Looks look) d → (row : Row) → IsThere c c.seen.pass.cursor row → look ≡ seen c.seen.pass.cursor (Some row)
+look_shows c d look x row has =
+    let k : ℕ = c.seen.pass.number in
+    let answer : Looks (seen (pass_at x.state k).cursor (x.state.rows (pass_at x.state k).cursor)) ≡ Looks look = x.reply in
+    let same : seen (pass_at x.state k).cursor (x.state.rows (pass_at x.state k).cursor) ≡ look = cc in
+    sym same ∙ ap (λ n. seen n (x.state.rows n)) (cursor_in x.state c x.before) ∙ ap (seen c.seen.pass.cursor) (x.before.there c.seen.pass.cursor row has)
 
 -- A pass that joined no other acts as a board.
 module _ (c d : CardIs) (alone : c.seen.pass.joined ≡ []) (number : d.seen.pass.number ≡ c.seen.pass.number) where

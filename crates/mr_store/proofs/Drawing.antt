@@ -117,8 +117,9 @@ claims g slots id m live none s h homes at fits =
       tt,
       rule,
       record {
+        at = (refl, refl);
         is = refl;
-        event = happened g s t id v w (λ k. Claim k) (Cube reply) h at live rule (set_there s.views id v w at) alive may (ap (λ (x : Setting). Cube (if nat_lt word x.problem.cubes then Some word else None)) same) leads;
+        event = happened g s t id v w (λ k. Claim k) (Cube reply) h at live rule (set_there s.views id v w at) alive may (ap (λ (x : Setting). Cube (if nat_lt word x.problem.cubes then Some word else None)) same) leads (λ _ _ e. e) refl;
       },
     )
 
@@ -185,6 +186,7 @@ module _ (g : Setting) (s : table.State (Unit {0}) Seen) (id : ℕ) (v : Seen) (
   drawn : IsSound (shown g words (set s.views id w)) → IsTied (shown g words (set s.views id w)) words w
   drawn sound = tie g words (set s.views id w) id w h.frame sound (set_there s.views id v w at) live (setting_here g s id v h at live)
       (λ slot row e. rows_kept slot row (old.found slot row e))
+      (λ slot row e. rows_kept slot row (old.given slot row e))
       (λ slot knows. (let f = (old.known slot).0 knows in record { row = f.row; at = f.at; why = ⊎_elim (λ short. inl short) (λ own. inr (still slot own)) f.why }))
       (λ slot row e short. (old.known slot).1 (record { row = row; at = e; why = inl short }))
       laid
@@ -261,7 +263,8 @@ opens g slots id m node live alone can s h homes at fits =
       tt,
       rule,
       record {
+        at = (refl, refl);
         is = refl;
-        event = happened g s t id v w (λ k. OpenNode k node) (Drawn reply) h at live rule (set_there s.views id v w at) alive may (ap (λ (x : Setting). Drawn (if nat_lt word x.problem.nodes then Some word else None)) same) leads;
+        event = happened g s t id v w (λ k. OpenNode k node) (Drawn reply) h at live rule (set_there s.views id v w at) alive may (ap (λ (x : Setting). Drawn (if nat_lt word x.problem.nodes then Some word else None)) same) leads (λ _ _ e. e) refl;
       },
     )

@@ -56,10 +56,11 @@ splits_first g s v h at live room =
     let may : IsAllowedEvent st Split = step.allowed in
     let leads : state_after st Split ≡ shown g s.words views = step.next in
     let F : Seen → Type 0 = λ u. IsTrue u.pass.live → IsTied (shown g s.words views) s.words u in
-    let made : F (view_made v) = λ _. record { setting = old.setting; found = old.found; known = old.known; laid = old.laid; own = old.own } in
+    let made : F (view_made v) = λ _. record { setting = old.setting; found = old.found; given = old.given; known = old.known; laid = old.laid; own = old.own } in
     let new : F (view_new v) = λ _. record {
       setting = old.setting;
       found = λ slot row has. absurd (let lt = has.1 in omega arith);
+      given = λ slot row has. ⊎_elim (old.found slot row) (old.given slot row) (Contains-append_cases v.found v.given (slot, row) has);
       known = λ slot. ((λ has. none_in slot has), λ (f : IsFound [] [] slot). absurd (none-some f.row f.at));
       laid = λ slot j mine _ _. none_in slot mine;
       own = λ i n e. absurd (none-some n e);
@@ -170,6 +171,7 @@ module _ (g : Setting) (s : table.State (Unit {0}) Seen) (v : Seen) (k : ℕ) (w
   pub joined_tied : IsSound (shown g s.words views) → IsTied (shown g s.words views) s.words both
   joined_tied sound = tie g s.words views 0 both h.frame sound joined_there live (setting_here g s 0 v h at live)
       (λ slot row has. ⊎_elim (a.found slot row) (b.found slot row) (Contains-append_cases v.found w.found (slot, row) has))
+      (λ slot row has. ⊎_elim (a.given slot row) (b.given slot row) (Contains-append_cases v.given w.given (slot, row) has))
       (λ slot knows. ⊎_elim (λ (x : Contains v.pass.known slot). left_found slot ((a.known slot).0 x)) (λ (x : Contains w.pass.known slot). right_found slot ((b.known slot).0 x)) (Contains-append_cases v.pass.known w.pass.known slot knows))
       (λ slot row e short. ⊎_elim (λ (x : find v.found slot ≡ Some row). Contains-append_left v.pass.known w.pass.known slot ((a.known slot).1 (record { row = row; at = x; why = inl short })))
       (λ (x : find w.found slot ≡ Some row). Contains-append_right v.pass.known w.pass.known slot ((b.known slot).1 (record { row = row; at = x; why = inl short }))) (find_append v.found w.found slot row e))

@@ -115,6 +115,7 @@ module _ (g : Setting) (s : table.State (Unit {0}) Seen) (id : ℕ) (v : Seen) (
   laid_tied behind = let old = tied_here g s id v h at live in record {
     setting = old.setting;
     found = λ t row e. ap (λ (rows : Rows). rows t) (laid_rows behind) ∙ old.found t row e;
+    given = λ t row e. ap (λ (rows : Rows). rows t) (laid_rows behind) ∙ old.given t row e;
     known = old.known;
     laid = λ t k mine low high. eq_cases i (word_at t k) (λ b. slice_index words (word_at t k) ≡ or_zero (if b then Some n else find v.laid (word_at t k)))
         (λ e. ap (λ x. slice_index words x) (sym e) ∙ get_or-set_same s.words i n 0 there)

@@ -19,11 +19,11 @@ use Rattle.mr_exchange.specs.Sound.{IsSound}
 use Rattle.mr_exchange.proofs.Lookups.{knowing_this, knowing_more, knowing_cases}
 use Rattle.mr_exchange.proofs.Runs.{allowed_events_keep_soundness}
 use Rattle.mr_exchange.proofs.Holdings.{le_cases}
-use Rattle.mr_store.specs.Seats.{Setting, Seen, find, word_at, view_looked}
+use Rattle.mr_store.specs.Seats.{Setting, Seen, IsTold, find, word_at, view_looked}
 use Rattle.mr_store.specs.Shown.{shown, rows_in_words, IsFound, IsOwnWord, IsTied, Holds}
 use Rattle.mr_store.specs.Steps.{Looks, Reads, Checks}
 use Rattle.mr_store.specs.Kinds.{LooksAreEvents}
-use Rattle.mr_store.proofs.Finding.{find_here, find_else, find_cases, find_in, in_cons}
+use Rattle.mr_store.proofs.Finding.{find_here, find_else, find_cases, find_in, in_cons, told_more, told_met}
 use Rattle.mr_store.proofs.Words.{slot_word, head_at-rows_of}
 use Rattle.mr_store.proofs.Showing.{passes_set, pass_here, live_here, tied_here, setting_here, shown_here, happened}
 use Rattle.mr_store.proofs.Tying.{set_there, each_seat, tied_kept, tie}
@@ -69,7 +69,7 @@ module _ (g : Setting) (s : table.State (Unit {0}) Seen) (id : ℕ) (v : Seen) (
 
   -- what the seat knows after a look at no row
   none_tied : (w : Seen) → w ≡ view_looked None v → IsTied (shown g s.words (set s.views id w)) s.words w
-  none_tied w is = subst (λ (x : Seen). IsTied (shown g s.words (set s.views id x)) s.words x) (sym is) (record { setting = old.setting; found = old.found; known = old.known; laid = old.laid; own = old.own })
+  none_tied w is = subst (λ (x : Seen). IsTied (shown g s.words (set s.views id x)) s.words x) (sym is) (record { setting = old.setting; found = old.found; given = old.given; known = old.known; laid = old.laid; own = old.own })
 
   -- what was found is still found
   still_found : (row : Row) → rows_in_words s.words c ≡ Some row → (t : ℕ) → IsFound v.found v.pass.tickets t → IsFound ((c, row) ∷ v.found) v.pass.tickets t
@@ -98,6 +98,7 @@ module _ (g : Setting) (s : table.State (Unit {0}) Seen) (id : ℕ) (v : Seen) (
       let w : Seen = record v { pass = p; found = (c, row) ∷ v.found } in
       tie g s.words (set s.views id w) id w h.frame sound (set_there s.views id v w at) alive (setting_here g s id v h at live)
       (λ t r e. ⊎_elim (λ (a : (c ≡ t) × (row ≡ r)). ap (rows_in_words s.words) (sym a.0) ∙ has ∙ ap (λ (x : Row). Some x) a.1) (λ (a : Contains v.found (t, r)). old.found t r a) (in_cons c row v.found t r e))
+      old.given
       (λ t knows. subst (λ ts. IsFound w.found ts t) (sym tickets_are) (⊎_elim (λ (k : Contains v.pass.known t). still_found row has t ((old.known t).0 k)) (λ (a : (c ≡ t) × IsShort row). record { row = row; at = find_here c t row v.found a.0; why = inl a.1 }) (cases t (subst (λ ks. Contains ks t) known_is knows))))
       (λ t r e few. subst (λ ks. Contains ks t) (sym known_is) (⊎_elim (λ (a : (c ≡ t) × (row ≡ r)). subst (λ x. Contains known x) a.0 (short (subst (λ (x : Row). IsShort x) (sym a.1) few)))
       (λ (a : (c ≢ t) × (find v.found t ≡ Some r)). more t ((old.known t).1 (record { row = r; at = a.1; why = inl few }))) (find_cases c t row r v.found e)))
@@ -170,10 +171,13 @@ looks g slots id m live alone some_ticket s h homes at fits =
       tt,
       subst (λ (ws : List ℕ). Holds g (record { words = ws; homes = s.homes; views = views })) (sym quiet) rule,
       record {
+        at = refl;
         row = row;
         head = sym (head_at-rows_of s.words v.pass.cursor (λ r e. (h.tied.packed v.pass.cursor r e).1));
         good = λ r e. (h.tied.packed v.pass.cursor r e).0;
         is = refl;
-        event = happened g s t id v w (λ k. LookAt k) (Looked (seen v.pass.cursor row)) h at live rule (set_there s.views id v w at) live may (ap (λ (p : Pass). Looked (seen p.cursor (rows_in_words s.words p.cursor))) here) leads;
+        event = happened g s t id v w (λ k. LookAt k) (Looked (seen v.pass.cursor row)) h at live rule (set_there s.views id v w at) live may (ap (λ (p : Pass). Looked (seen p.cursor (rows_in_words s.words p.cursor))) here) leads
+            (λ slot r has. told_more v.pass.cursor row v.found v.given slot r has)
+            (subst (λ (p : Pass). (r : Row) → rows_in_words s.words p.cursor ≡ Some r → IsTold w p.cursor r) (sym here) (told_met v.pass.cursor row v.found v.given));
       },
     )

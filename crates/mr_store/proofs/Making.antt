@@ -43,6 +43,7 @@ module _ (g : Setting) (words : List ℕ) (zeros : words ≡ replicate (word_at 
   first_tied = record {
     setting = refl;
     found = λ slot row has. absurd (let lt = has.1 in omega arith);
+    given = λ slot row has. absurd (let lt = has.1 in omega arith);
     known = λ slot. ((λ has. none_in slot has), λ (f : IsFound [] [] slot). absurd (none-some f.row f.at));
     laid = λ slot j mine _ _. none_in slot mine;
     own = λ i n e. absurd (none-some n e);

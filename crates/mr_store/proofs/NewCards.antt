@@ -16,7 +16,7 @@ use Rattle.mr_exchange.proofs.Runs.{allowed_events_keep_soundness}
 use Rattle.mr_store.specs.Seats.{Setting, Seen, word_at, first_view, view_made, view_new}
 use Rattle.mr_store.specs.Steps.{IsShownIn}
 use Rattle.mr_store.specs.Private.Cards.{IsCard}
-use Rattle.mr_store.proofs.Showing.{shown_here}
+use Rattle.mr_store.proofs.Showing.{shown_here, told_there}
 use Rattle.mr_store.proofs.Making.{opening_holds}
 
 -- a new state shows the first seat
@@ -90,6 +90,7 @@ module _ (s : State) (v : Seen) (i : IsShownIn s v) (first : v.pass.number ≡ 0
     live = subst (λ k. IsLive (state_after s Split) k) (sym first) (subst (λ (p : Pass). IsTrue p.live) (sym made_pass) (subst (λ (p : Pass). IsTrue p.live) i.pass i.live));
     pass = ap (pass_at (state_after s Split)) first ∙ made_pass;
     found = i.found;
+    given = i.given;
     known = i.known;
   }
 
@@ -103,5 +104,6 @@ module _ (s : State) (v : Seen) (i : IsShownIn s v) (first : v.pass.number ≡ 0
     live = subst (λ (p : Pass). IsTrue p.live) (sym new_is) refl;
     pass = new_is;
     found = λ slot row has. absurd (let lt = has.1 in omega arith);
+    given = told_there s v i;
     known = λ slot. refl;
   }

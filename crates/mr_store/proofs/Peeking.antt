@@ -1,13 +1,11 @@
 -- What the first pass reads where each other pass was joined into it.
-use Rattle.std.proofs.Common.{◌≡◌, ◌≢◌, ℕ, zero, suc, ◌+◌, ◌<◌, ◌≤◌, min, if◌then◌else◌, IsTrue, IsSome, List, [], ◌∷◌, ◌++◌, length, length-append, slice_index, Option, Some, None, refl, sym, ap, ◌∙◌, ⊎_elim, subst, arith}
+use Rattle.std.proofs.Common.{◌≡◌, ◌≢◌, ℕ, zero, suc, ◌+◌, ◌<◌, ◌≤◌, min, IsTrue, IsSome, List, [], ◌∷◌, ◌++◌, length, length-append, slice_index, Option, Some, None, refl, sym, ap, ◌∙◌, ⊎_elim, subst, arith}
 use mathlib.Core.Option.{some}
 use mathlib.Core.Option as plain
 use Rattle.std.proofs.lemmas.Bool.{cases_lt}
-use Rattle.std.proofs.lemmas.Option.{none-some}
 use Rattle.atomic_table.specs.Table.{Me, Allows, step}
 use Rattle.atomic_table.specs.Table.Act.{keeps}
 use Rattle.atomic_table.specs.Seated.{TableId}
-use Rattle.mr_set.specs.Elements.{is_element}
 use Rattle.mr_frame.specs.Frame.{Framed}
 use Rattle.mr_nogood.specs.declared.row.Row.{Row}
 use Rattle.mr_nogood.specs.Row.{IsRow}
@@ -17,7 +15,6 @@ use Rattle.mr_exchange.specs.Cubes.{IsProblemOf}
 use Rattle.mr_exchange.specs.State.{State, head_at, known_rows}
 use Rattle.mr_exchange.specs.Facts.{PassFacts, IsWhole}
 use Rattle.mr_exchange.specs.Closed.{closed_is, IsShown}
-use Rattle.mr_exchange.proofs.Totals.{bool_cases}
 use Rattle.mr_exchange.proofs.OnePass.{passes_have_facts}
 use Rattle.mr_exchange.proofs.Holdings.{known_there, unknown_empty}
 use Rattle.mr_store.specs.Seats.{Setting, Seen, find, known_of}
@@ -25,7 +22,7 @@ use Rattle.mr_store.specs.Shown.{shown, Holds}
 use Rattle.mr_store.specs.Steps.{IsShownIn, HasAll, Peeks}
 use Rattle.mr_store.specs.Private.Laying.{HasRow, AreRows}
 use Rattle.mr_store.specs.Private.Cards.{IsCard}
-use Rattle.mr_store.proofs.Finding.{find_in}
+use Rattle.mr_store.proofs.Finding.{find_in, known_found_row}
 use Rattle.mr_store.proofs.Words.{head_at-rows_of}
 use Rattle.mr_store.proofs.Showing.{tied_here, setting_here, shown_here}
 use Rattle.mr_store.proofs.Looking.{unchanged}
@@ -75,10 +72,6 @@ peeks g slots id i m live s h homes at fits =
         head = λ all slot place. ap (λ k. slice_index s.words k) place ∙ sym (head_at-rows_of s.words slot (λ row e. (h.tied.packed slot row e).1)) ∙ ap head_at (knows_all st v shows all slot);
       },
     )
-
--- a known row was found
-known_found_row : (v : Seen) (slot : ℕ) (row : Row) → known_of v slot ≡ Some row → find v.found slot ≡ Some row
-known_found_row v slot row = bool_cases (is_element v.pass.known slot) (λ b. (if b then find v.found slot else None) ≡ Some row → find v.found slot ≡ Some row) (λ e h. h) (λ e h. absurd (none-some row h))
 
 -- where the head is 0 no row is known
 pub peek_none : (v : Seen) (slot head : ℕ) → head ≡ head_at (known_of v slot) → head ≡ 0 → None ≡ known_of v slot

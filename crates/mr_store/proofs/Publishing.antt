@@ -33,7 +33,7 @@ use Rattle.mr_store.specs.Seats.{Setting, Seen, find, or_zero, word_at, holding_
 use Rattle.mr_store.specs.Shown.{shown, slot_words, rows_in_words, IsTied, Holds}
 use Rattle.mr_store.specs.Steps.{Publishes}
 use Rattle.mr_store.specs.Kinds.{PublicationsAreEvents}
-use Rattle.mr_store.proofs.Finding.{find_here, find_else, find_cases, find_in, in_cons, same_place}
+use Rattle.mr_store.proofs.Finding.{find_here, find_else, find_cases, find_in, in_cons, same_place, told_more, told_met}
 use Rattle.mr_store.proofs.Words.{rows_of-some, slot_word, other_word, length-packed}
 use Rattle.mr_store.proofs.Showing.{passes_set, pass_here, live_here, number_here, tied_here, setting_here, shown_here, holding_shown, happened}
 use Rattle.mr_store.proofs.Tying.{set_there, tie}
@@ -114,6 +114,7 @@ module _ (g : Setting) (s : table.State (Unit {0}) Seen) (id : ℕ) (v : Seen) (
   published_tied sound = let old = tied_here g s id v h at live in
       tie g filled (set s.views id w) id w h.frame sound (set_there s.views id v w at) live (setting_here g s id v h at live)
       (λ t r e. ⊎_elim (λ (a : (slot ≡ t) × (row ≡ r)). ap (rows_in_words filled) (sym a.0) ∙ row_there ∙ ap (λ (x : Row). Some x) a.1) (λ (a : Contains v.found (t, r)). stays t r (old.found t r a)) (in_cons slot row v.found t r e))
+      (λ t r e. stays t r (old.given t r e))
       (λ t knows. ⊎_elim (λ (k : Contains v.pass.known t). (let f = (old.known t).0 k in record { row = f.row; at = find_else slot t row v.found (λ e. none_there t f.row e (old.found t f.row (find_in v.found t f.row f.at))) ∙ f.at; why = f.why }))
       (λ (e : slot ≡ t). record { row = row; at = find_here slot t row v.found e; why = inr (subst (λ x. Contains (slots_of v.pass.tickets) x) e can.own) }) (knowing_cases slot v.pass.known t knows))
       (λ t r e short. ⊎_elim (λ (a : (slot ≡ t) × (row ≡ r)). subst (λ x. Contains (knowing slot v.pass.known) x) a.0 (knowing_this slot v.pass.known))
@@ -147,7 +148,7 @@ publishes g slots id m slot row live can good laid s h homes at fits =
           (λ r e. (let same : row ≡ r = same_Some row r (sym has ∙ e) in (subst IsRow same good, words_are g s id v h at live slot row can good laid ∙ ap row_packing same)))
           (published_tied g s id v h at live slot row can good laid sound);
     } in
-    (w, keeps, tt, rule, record { is = refl; event = happened g s t id v w (λ k. Publish k slot row) Done h at live rule (set_there s.views id v w at) live may refl leads })
+    (w, keeps, tt, rule, record { at = (refl, refl); is = refl; event = happened g s t id v w (λ k. Publish k slot row) Done h at live rule (set_there s.views id v w at) live may refl leads (told_more slot (Some row) v.found v.given) (told_met slot (Some row) v.found v.given row refl) })
 
 -- it is the publication of the seat's pass
 pub publications_are_events : PublicationsAreEvents

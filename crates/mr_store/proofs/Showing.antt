@@ -1,9 +1,10 @@
 -- What the rule says of one live seat.
-use Rattle.std.proofs.Common.{◌≡◌, ℕ, zero, suc, if◌then◌else◌, IsTrue, IsSome, List, [], ◌∷◌, map, set, get_or, Some, None, Contains, refl, sym, ap, ◌∙◌, subst}
+use Rattle.std.proofs.Common.{◌≡◌, ℕ, zero, suc, if◌then◌else◌, IsTrue, IsSome, List, [], ◌∷◌, map, set, get_or, Some, None, Contains, refl, sym, ap, ◌∙◌, ⊎_elim, subst}
 use mathlib.Core.Option.{some, some-injective, some-ne-none}
 use lib.ListN.{get_elem?}
 use Rattle.std.proofs.Math.Path.{fun_ext}
 use Rattle.std.proofs.lemmas.List.{map-set}
+use Rattle.std.proofs.lemmas.List.Elements.{Contains-append_cases}
 use Rattle.atomic_table.specs.Table as table
 use Rattle.mr_set.specs.Elements.{is_element}
 use Rattle.mr_set.proofs.Members.{Contains-from_element}
@@ -19,9 +20,9 @@ use Rattle.mr_exchange.specs.Facts.{PassFacts}
 use Rattle.mr_exchange.specs.Board.{Holding, holding_in, holding_of}
 use Rattle.mr_exchange.proofs.Totals.{bool_cases}
 use Rattle.mr_exchange.proofs.OnePass.{passes_have_facts}
-use Rattle.mr_store.specs.Seats.{Setting, Seen, find, known_of, holding_seen}
+use Rattle.mr_store.specs.Seats.{Setting, Seen, IsTold, find, known_of, holding_seen}
 use Rattle.mr_store.specs.Shown.{shown, IsTied, Holds}
-use Rattle.mr_store.specs.Steps.{IsShownIn, Happened}
+use Rattle.mr_store.specs.Steps.{IsShownIn, Tells, Happened}
 use Rattle.mr_store.proofs.Finding.{find_in}
 
 -- the pass of a seat stands at its place
@@ -83,6 +84,7 @@ module _ (g : Setting) (s : table.State (Unit {0}) Seen) (id : ℕ) (v : Seen) (
     live = subst (λ k. IsLive st k) (sym number_here) live_here;
     pass = ap (pass_at st) number_here ∙ pass_here;
     found = tied_here.found;
+    given = tied_here.given;
     known = known_found st s.words v tied_here;
   }
 
@@ -108,14 +110,21 @@ holding_shown s v i =
     ∙ ap (λ (g : Setting). holding_with g v.pass (known_rows s v.pass)) i.setting
     ∙ ap (λ (rows : Rows). holding_with v.setting v.pass rows) (fun_ext i.known)
 
+-- a row of which a seat was told stands in a state that shows what the seat knows
+pub told_there : (s : State) (v : Seen) → IsShownIn s v → (slot : ℕ) (row : Row) → IsTold v slot row → s.rows slot ≡ Some row
+told_there s v i slot row has = ⊎_elim (i.found slot row) (i.given slot row) (Contains-append_cases v.found v.given (slot, row) has)
+
 -- a step from a state that keeps the rule to one that keeps it is the event that leads from the one to the other
 pub happened : (g : Setting) (s t : table.State (Unit {0}) Seen) (id : ℕ) (v w : Seen) (event : ℕ → Event) (reply : Reply) → Holds g s → get_elem? s.views id ≡ some v → IsTrue v.pass.live
     → Holds g t → get_elem? t.views id ≡ some w → IsTrue w.pass.live → IsAllowedEvent (shown g s.words s.views) (event id) → reply_of (shown g s.words s.views) (event id) ≡ reply
-    → state_after (shown g s.words s.views) (event id) ≡ shown g t.words t.views → Happened v (event v.pass.number) reply w
-happened g s t id v w event reply h at live k there alive may is leads = subst (λ n. Happened v (event n) reply w) (sym (number_here g s id v h at live)) (record {
+    → state_after (shown g s.words s.views) (event id) ≡ shown g t.words t.views → ((slot : ℕ) (row : Row) → IsTold v slot row → IsTold w slot row) → Tells (shown g s.words s.views) (event id) w
+    → Happened v (event v.pass.number) reply w
+happened g s t id v w event reply h at live k there alive may is leads stays tells = subst (λ n. Happened v (event n) reply w) (sym (number_here g s id v h at live)) (record {
   state = shown g s.words s.views;
   before = shown_here g s id v h at live;
   allowed = may;
   reply = is;
   next = subst (λ x. IsShownIn x w) (sym leads) (shown_here g t id w k there alive);
+  stays = stays;
+  tells = tells;
 })

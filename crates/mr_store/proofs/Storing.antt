@@ -20,7 +20,7 @@ use Rattle.mr_exchange.specs.Events.{IsAllowedEvent, seen, state_after, reply_of
 use Rattle.mr_exchange.specs.Board.{CanPublish}
 use Rattle.mr_exchange.proofs.Totals.{eq_cases}
 use Rattle.mr_exchange.proofs.Steps.{latest_among}
-use Rattle.mr_store.specs.Seats.{Setting, Seen, find, word_at, known_of, holding_seen, view_looked}
+use Rattle.mr_store.specs.Seats.{Setting, Seen, IsTold, find, word_at, known_of, holding_seen, view_looked}
 use Rattle.mr_store.specs.Shown.{Holds}
 use Rattle.mr_store.specs.Steps.{IsShownIn, Lays, Publishes, Looks, Reads}
 use Rattle.mr_store.specs.Private.Laying.{HasRow, row_seen}
@@ -149,7 +149,7 @@ pub shown_before : (s : State) (v w : Seen) → w ≡ record v { laid = w.laid }
 shown_before s v w same i = back (subst (λ (x : Seen). IsShownIn s x) same i)
   where
     back : IsShownIn s (record v { laid = w.laid }) → IsShownIn s v
-    back h = record { frame = h.frame; problem = h.problem; sound = h.sound; setting = h.setting; live = h.live; pass = h.pass; found = h.found; known = h.known }
+    back h = record { frame = h.frame; problem = h.problem; sound = h.sound; setting = h.setting; live = h.live; pass = h.pass; found = h.found; given = h.given; known = h.known }
 
 -- a publication is the event
 pub published_event : (id other : TableId) (slot : ℕ) (row : Row) (step : Step (Unit {0})) (m n o : Me (Unit {0}) Seen) (head : ℕ) → n.0 ≡ record m.0 { laid = n.0.laid } → Publishes slot row step n head o → IsEvent (card id m.0) (Publish m.0.pass.number slot row) Done (card other o.0)
@@ -161,6 +161,8 @@ published_event id other slot row step m n o head laid told =
       allowed = subst (λ k. IsAllowedEvent told.event.state (Publish k slot row)) number told.event.allowed;
       reply = subst (λ k. reply_of told.event.state (Publish k slot row) ≡ Done) number told.event.reply;
       next = subst (λ k. IsShownIn (state_after told.event.state (Publish k slot row)) o.0) number told.event.next;
+      stays = λ at r has. told.event.stays at r (subst (λ (x : Seen). IsTold x at r) (sym laid) has);
+      tells = told.event.tells;
     })
 
 -- the row that was found is one

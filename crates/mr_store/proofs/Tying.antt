@@ -33,6 +33,7 @@ pub tied_kept : (s t : State) (words other : List ℕ) (u : Seen) → setting_of
 tied_kept s t words other u same rows own h = record {
   setting = same ∙ h.setting;
   found = λ slot row e. rows slot row (h.found slot row e);
+  given = λ slot row e. rows slot row (h.given slot row e);
   known = h.known;
   laid = λ slot j mine low high. own slot j mine low high ∙ h.laid slot j mine low high;
   own = h.own;
@@ -44,6 +45,7 @@ pub tied_pass : (s t : State) (words other : List ℕ) (v : Seen) (p : Pass) →
 tied_pass s t words other v p known tickets same rows words_are h = record {
   setting = same ∙ h.setting;
   found = λ slot row e. rows slot row (h.found slot row e);
+  given = λ slot row e. rows slot row (h.given slot row e);
   known = λ slot. subst (λ (ks : List ℕ). Contains ks slot ↔ IsFound v.found p.tickets slot) (sym known) (subst (λ (ts : List Ticket). Contains v.pass.known slot ↔ IsFound v.found ts slot) (sym tickets) (h.known slot));
   laid = λ slot j mine low high. words_are slot j ∙ h.laid slot j (subst (λ (ts : List Ticket). Contains (slots_of ts) slot) tickets mine) low high;
   own = λ i n e. subst (λ (ts : List Ticket). IsOwnWord ts i) (sym tickets) (h.own i n e);
@@ -51,19 +53,21 @@ tied_pass s t words other v p known tickets same rows words_are h = record {
 
 -- whatever number the seat found last
 pub tied_word : (s : State) (words : List ℕ) (v : Seen) (n : ℕ) → IsTied s words v → IsTied s words (record v { last_word = n })
-tied_word s words v n h = record { setting = h.setting; found = h.found; known = h.known; laid = h.laid; own = h.own }
+tied_word s words v n h = record { setting = h.setting; found = h.found; given = h.given; known = h.known; laid = h.laid; own = h.own }
 
 -- what a seat knows is so, where it knows what it found that is short, and its own slots that have rows
 pub tie : (g : Setting) (words : List ℕ) (views : List Seen) (id : ℕ) (w : Seen) → IsFrame g.frame → IsSound (shown g words views) → get_elem? views id ≡ some w → IsTrue w.pass.live → g ≡ w.setting
     → ((slot : ℕ) (row : Row) → Contains w.found (slot, row) → rows_in_words words slot ≡ Some row)
+    → ((slot : ℕ) (row : Row) → Contains w.given (slot, row) → rows_in_words words slot ≡ Some row)
     → ((slot : ℕ) → Contains w.pass.known slot → IsFound w.found w.pass.tickets slot)
     → ((slot : ℕ) (row : Row) → find w.found slot ≡ Some row → IsShort row → Contains w.pass.known slot)
     → ((slot j : ℕ) → Contains (slots_of w.pass.tickets) slot → 1 ≤ j → j < ROW_WORDS → slice_index words (word_at slot j) ≡ or_zero (find w.laid (word_at slot j)))
     → ((i n : ℕ) → find w.laid i ≡ Some n → IsOwnWord w.pass.tickets i)
     → IsTied (shown g words views) words w
-tie g words views id w frame sound at live same found known short laid own = record {
+tie g words views id w frame sound at live same found given known short laid own = record {
   setting = same;
   found = found;
+  given = given;
   known = λ slot. (known slot, λ (f : IsFound w.found w.pass.tickets slot). ⊎_elim (short slot f.row f.at) (λ (mine : Contains (slots_of w.pass.tickets) slot). own_there slot f.row mine (found slot f.row (find_in w.found slot f.row f.at))) f.why);
   laid = laid;
   own = own;

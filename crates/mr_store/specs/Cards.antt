@@ -1,5 +1,5 @@
 -- What callers see of a store, a card and a pass.
-use Rattle.std.specs.Prelude.{◌≡◌, ◌↔◌, ℕ, ◌+◌, ◌<◌, ◌≤◌, ◌==◌, List, [], length, count_by, Contains, Some}
+use Rattle.std.specs.Prelude.{◌≡◌, ◌≢◌, ◌↔◌, ℕ, ◌+◌, ◌<◌, ◌≤◌, ◌==◌, List, [], length, count_by, Contains, Some}
 pub use Rattle.atomic_table.specs.Seated.{TableId}
 use Rattle.mr_frame.specs.Frame.{IsFrame}
 use Rattle.mr_nogood.specs.declared.row.Row.{Row}
@@ -11,8 +11,9 @@ use Rattle.mr_exchange.specs.State.{State, pass_at, IsLive, slots_of}
 use Rattle.mr_exchange.specs.Events.{IsNodeOf, IsAllowedEvent, state_after, reply_of}
 use Rattle.mr_exchange.specs.Sound.{IsSound}
 use Rattle.mr_exchange.specs.Board.{Holding, holding_of, IsKnownRow, BoardFacts}
-use Rattle.mr_store.specs.Seats.{Setting, Seen, holding_seen, view_spent}
+use Rattle.mr_store.specs.Seats.{Setting, Seen, IsTold, holding_seen, view_spent}
 use Rattle.mr_store.specs.Shown.{setting_of}
+use Rattle.mr_store.specs.Steps.{Tells}
 
 -- a store is told by its table, and has a setting
 pub record StoreIs : Type 0 where
@@ -53,11 +54,16 @@ mark_of c = record { store = store_of c; number = c.seen.pass.number; made = c.s
 abbrev pub held_by : CardIs → Holding
 held_by c = holding_seen c.seen
 
--- the number that its latest claim or opening found in the claim word or the ticket word
+-- the number that the later one of its latest claim and its latest opening found, in the claim word or the ticket word; 0 before any
 abbrev pub word_of : CardIs → ℕ
 word_of c = c.seen.last_word
 
--- the sound state has the pass, which is live
+-- The row stands in the slot, as far as the pass was told: it met it there or published it, the first pass had been told of it
+-- when this pass was made, or a pass that was joined into it was told. A row that stands in a slot stays.
+abbrev pub IsThere : CardIs → ℕ → Row → Type 0
+IsThere c slot row = IsTold c.seen slot row
+
+-- the sound state has the pass, which is live, and each row of which the pass was told
 pub record IsPassOf (s : State) (c : CardIs) : Type 0 where
   pub frame : IsFrame s.frame
   pub problem : IsProblemOf s.frame s.problem
@@ -67,15 +73,19 @@ pub record IsPassOf (s : State) (c : CardIs) : Type 0 where
   pub made : (pass_at s c.seen.pass.number).made ≡ c.seen.pass.made
   pub joined : (pass_at s c.seen.pass.number).joined ≡ c.seen.pass.joined
   pub holding : holding_of s c.seen.pass.number ≡ held_by c
+  pub there : (slot : ℕ) (row : Row) → IsThere c slot row → s.rows slot ≡ Some row
 
 -- The call was this event of a sound state of the store, with this answer: the pass was as it was before the call, and is as
--- the event leaves it.
+-- the event leaves it. All rows of which it was told stand in that state; they stay told, and the pass learns what the event
+-- tells: the number that it found in the claim word or the ticket word, or the row that it met or published.
 pub record IsEvent (c : CardIs) (e : Event) (answer : Reply) (d : CardIs) : Type 0 where
   pub state : State
   pub before : IsPassOf state c
   pub allowed : IsAllowedEvent state e
   pub reply : reply_of state e ≡ answer
   pub next : IsPassOf (state_after state e) d
+  pub stays : (slot : ℕ) (row : Row) → IsThere c slot row → IsThere d slot row
+  pub tells : Tells state e d.seen
 
 -- The cubes and the tickets are the numbers from 0 on, each once, and all of them where the pass was told that none is left.
 pub record HasWhole (h : Holding) : Type 0 where
@@ -96,9 +106,20 @@ pub record HoldingFacts (h : Holding) : Type 0 where
   pub nodes : (ticket : Ticket) → Contains h.tickets ticket → IsNodeOf h.frame h.problem.depth h.cubes ticket.node
   pub known : (slot : ℕ) (row : Row) → h.known slot ≡ Some row → IsKnownRow h slot row
 
--- What holds of a card. One that joined no other is as a board's, and the first has the whole where each other pass was
--- joined into it.
+-- What holds of a card. Its number is one of those that passes may have. The passes that were joined into it are different ones
+-- that were made, and none of them is the first; only the first takes in others. It was told at most once that no cube is left,
+-- and no ticket, and once more for each pass that was joined into it. The rows that it knows are there. One that joined no other
+-- is as a board's. Where each other pass was joined into the first, that has the whole, and knows all rows of which it was told.
 pub record CardFacts (c : CardIs) : Type 0 where
   pub holding : HoldingFacts (held_by c)
+  pub number : c.seen.pass.number < c.seen.setting.limit
+  pub made : c.seen.pass.number ≡ 0 → c.seen.pass.made ≤ c.seen.setting.limit
+  pub joined : (k : ℕ) → Contains c.seen.pass.joined k → (1 ≤ k) × (k < c.seen.pass.made)
+  pub joined_once : (k : ℕ) → count_by (λ x. x == k) c.seen.pass.joined ≤ 1
+  pub others : c.seen.pass.number ≢ 0 → c.seen.pass.joined ≡ []
+  pub claim_ends : c.seen.pass.claim_ends ≤ 1 + length c.seen.pass.joined
+  pub ticket_ends : c.seen.pass.ticket_ends ≤ 1 + length c.seen.pass.joined
+  pub there : (slot : ℕ) (row : Row) → (held_by c).known slot ≡ Some row → IsThere c slot row
   pub board : c.seen.pass.joined ≡ [] → BoardFacts (held_by c)
   pub whole : c.seen.pass.number ≡ 0 → 1 + length c.seen.pass.joined ≡ c.seen.pass.made → HasWhole (held_by c)
+  pub rows : c.seen.pass.number ≡ 0 → 1 + length c.seen.pass.joined ≡ c.seen.pass.made → (slot : ℕ) (row : Row) → IsThere c slot row → (held_by c).known slot ≡ Some row

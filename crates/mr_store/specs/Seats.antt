@@ -1,5 +1,5 @@
 -- What a seat of the table knows, and the words of the table.
-use Rattle.std.specs.Prelude.{ℕ, ◌+◌, ◌*◌, List, [], ◌∷◌, ◌++◌, ◌==◌, if◌then◌else◌, Option, Some, None}
+use Rattle.std.specs.Prelude.{ℕ, ◌+◌, ◌*◌, List, [], ◌∷◌, ◌++◌, ◌==◌, if◌then◌else◌, Option, Some, None, Contains}
 use Rattle.mr_field.specs.Gf.{gf2}
 use Rattle.mr_set.specs.Elements.{is_element}
 use Rattle.mr_frame.specs.Frame.{Framed}
@@ -17,12 +17,14 @@ pub record Setting : Type 0 where
   pub problem : Problem
   pub limit : ℕ
 
--- What a seat knows: the setting, its pass, the rows that it found in slots, the words that it stored, each list with the
--- latest first, and the number that it found last in the claim word or the ticket word.
+-- What a seat knows: the setting, its pass, the rows that it found in slots and those that it was given, which are the ones
+-- that the first pass had found or been given when this pass was made, the words that it stored, and the number that it found
+-- last in the claim word or the ticket word. Rows and words have the latest first.
 pub record Seen : Type 0 where
   pub setting : Setting
   pub pass : Pass
   pub found : List (ℕ × Row)
+  pub given : List (ℕ × Row)
   pub laid : List (ℕ × ℕ)
   pub last_word : ℕ
 
@@ -39,6 +41,10 @@ or_zero (Some n) = n
 -- Word 0 is the claim word and word 1 the ticket word. Then each slot has the words of a packed row, its head first.
 abbrev pub word_at : ℕ → ℕ → ℕ
 word_at slot j = 2 + ROW_WORDS * slot + j
+
+-- The seat was told that the row stands in the slot: it found it there, or it was given it.
+abbrev pub IsTold : Seen → ℕ → Row → Type 0
+IsTold v slot row = Contains (v.found ++ v.given) (slot, row)
 
 -- the rows that the seat's pass knows
 abbrev pub known_of : Seen → Rows
@@ -61,7 +67,7 @@ holding_seen v = record {
 
 -- the first seat knows the setting
 abbrev pub first_view : Setting → Seen
-first_view g = record { setting = g; pass = new_pass 0; found = []; laid = []; last_word = 0 }
+first_view g = record { setting = g; pass = new_pass 0; found = []; given = []; laid = []; last_word = 0 }
 
 -- after a claim that found this number in the claim word
 abbrev pub view_claimed : ℕ → Seen → Seen
@@ -92,13 +98,13 @@ view_looked row v = record v { pass = looked v.setting.problem.nodes (λ _. row)
 abbrev pub view_made : Seen → Seen
 view_made v = record v { pass = record v.pass { made = v.pass.made + 1 } }
 
--- and this is its seat's
+-- and this is its seat's, which is given all that the first was told
 abbrev pub view_new : Seen → Seen
-view_new v = record { setting = v.setting; pass = new_pass v.pass.made; found = []; laid = []; last_word = 0 }
+view_new v = record { setting = v.setting; pass = new_pass v.pass.made; found = []; given = v.found ++ v.given; laid = []; last_word = 0 }
 
 -- all that two seats know
 abbrev pub view_joined : Seen → Seen → Seen
-view_joined v w = record v { pass = joins v.pass w.pass; found = v.found ++ w.found; laid = v.laid ++ w.laid }
+view_joined v w = record v { pass = joins v.pass w.pass; found = v.found ++ w.found; given = v.given ++ w.given; laid = v.laid ++ w.laid }
 
 -- what is left of a seat that was joined into another
 abbrev pub view_spent : Seen
@@ -110,6 +116,7 @@ view_spent = record {
   };
   pass = spent;
   found = [];
+  given = [];
   laid = [];
   last_word = 0;
 }

@@ -55,12 +55,13 @@ pub record IsOwnWord (tickets : List Ticket) (i : ℕ) : Type 0 where
   pub behind : (1 ≤ j) × (j < ROW_WORDS)
   pub own : Contains (slots_of tickets) slot
 
--- What a live seat knows is so: the setting is that of the table, the rows that it found are those of the slots, and its pass
--- knows just those of them that are short or in slots of its own. Behind the heads of its own slots stand the words that it
+-- What a live seat knows is so: the setting is that of the table, the rows that it found and those that it was given are those
+-- of the slots, and its pass knows just those that it found and that are short or in slots of its own. Behind the heads of its own slots stand the words that it
 -- stored last, and 0 where it stored none; it stored no others.
 pub record IsTied (s : State) (words : List ℕ) (v : Seen) : Type 0 where
   pub setting : setting_of s ≡ v.setting
   pub found : (slot : ℕ) (row : Row) → Contains v.found (slot, row) → s.rows slot ≡ Some row
+  pub given : (slot : ℕ) (row : Row) → Contains v.given (slot, row) → s.rows slot ≡ Some row
   pub known : (slot : ℕ) → Contains v.pass.known slot ↔ IsFound v.found v.pass.tickets slot
   pub laid : (slot j : ℕ) → Contains (slots_of v.pass.tickets) slot → 1 ≤ j → j < ROW_WORDS → slice_index words (word_at slot j) ≡ or_zero (find v.laid (word_at slot j))
   pub own : (i n : ℕ) → find v.laid i ≡ Some n → IsOwnWord v.pass.tickets i

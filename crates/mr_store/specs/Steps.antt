@@ -5,19 +5,20 @@ use Rattle.mr_frame.specs.Frame.{IsFrame}
 use Rattle.mr_nogood.specs.declared.TheConstants.{ROW_WORDS}
 use Rattle.mr_nogood.specs.declared.row.Row.{Row}
 use Rattle.mr_nogood.specs.Row.{IsRow}
-use Rattle.mr_nogood.specs.Packing.{row_packing}
+use Rattle.mr_nogood.specs.Packing.{row_packing, head_of}
 use Rattle.mr_exchange.specs.declared.event.Event.{Event}
-use Rattle.mr_exchange.specs.declared.event.Event.TheVariants.{Claim, OpenNode, LookAt, Publish}
+use Rattle.mr_exchange.specs.declared.event.Event.TheVariants.{Claim, OpenNode, LookAt, Publish, Split, Join}
 use Rattle.mr_exchange.specs.declared.event.Reply.{Reply}
 use Rattle.mr_exchange.specs.declared.event.Reply.TheVariants.{Cube, Ticket as Drawn, Seen as Looked, Done}
 use Rattle.mr_exchange.specs.Cubes.{IsProblemOf}
 use Rattle.mr_exchange.specs.State.{State, pass_at, IsLive, head_at, known_rows}
 use Rattle.mr_exchange.specs.Events.{IsAllowedEvent, state_after, reply_of, seen}
 use Rattle.mr_exchange.specs.Sound.{IsSound}
-use Rattle.mr_store.specs.Seats.{Seen, find, word_at, known_of, view_claimed, view_opened, view_laid, view_published, view_looked}
+use Rattle.mr_store.specs.Seats.{Seen, IsTold, find, word_at, known_of, view_claimed, view_opened, view_laid, view_published, view_looked}
 use Rattle.mr_store.specs.Shown.{setting_of}
 
--- The sound state has the seat's pass, which is live, and the rows that the seat found. Those that the pass knows are among them.
+-- The sound state has the seat's pass, which is live, the rows that the seat found and those that it was given. The rows that the
+-- pass knows are among those that it found.
 pub record IsShownIn (s : State) (v : Seen) : Type 0 where
   pub frame : IsFrame s.frame
   pub problem : IsProblemOf s.frame s.problem
@@ -26,23 +27,39 @@ pub record IsShownIn (s : State) (v : Seen) : Type 0 where
   pub live : IsLive s v.pass.number
   pub pass : pass_at s v.pass.number ≡ v.pass
   pub found : (slot : ℕ) (row : Row) → Contains v.found (slot, row) → s.rows slot ≡ Some row
+  pub given : (slot : ℕ) (row : Row) → Contains v.given (slot, row) → s.rows slot ≡ Some row
   pub known : (slot : ℕ) → known_rows s v.pass slot ≡ known_of v slot
 
--- the step was this event of a sound state, with this answer
+-- What an event tells its pass: a claim and an opening the number that they found in the claim word and in the ticket word, a
+-- look the row that it met, short or long, and a publication its row.
+abbrev pub Tells : State → Event → Seen → Type 0
+Tells s (Claim k) w = w.last_word ≡ s.claim
+Tells s (OpenNode k node) w = w.last_word ≡ s.ticket
+Tells s (LookAt k) w = (row : Row) → s.rows (pass_at s k).cursor ≡ Some row → IsTold w (pass_at s k).cursor row
+Tells s (Publish k slot row) w = IsTold w slot row
+Tells s Split w = Unit {0}
+Tells s (Join k) w = Unit {0}
+
+-- The step was this event of a sound state, with this answer. The seat forgets no row that it was told, and learns what the
+-- event tells.
 pub record Happened (v : Seen) (e : Event) (answer : Reply) (w : Seen) : Type 0 where
   pub state : State
   pub before : IsShownIn state v
   pub allowed : IsAllowedEvent state e
   pub reply : reply_of state e ≡ answer
   pub next : IsShownIn (state_after state e) w
+  pub stays : (slot : ℕ) (row : Row) → IsTold v slot row → IsTold w slot row
+  pub tells : Tells state e w
 
--- a number is added to the claim word
+-- one is added to the claim word
 pub record Claims (step : Step (Unit {0})) (m : Me (Unit {0}) Seen) (found : ℕ) (n : Me (Unit {0}) Seen) : Type 0 where
+  pub at : (step.word ≡ 0) × (step.first ≡ 1)
   pub is : n ≡ (view_claimed found m.0, m.1)
   pub event : Happened m.0 (Claim m.0.pass.number) (Cube (if nat_lt found m.0.setting.problem.cubes then Some found else None)) n.0
 
--- a number is added to the ticket word
+-- one is added to the ticket word
 pub record Opens (node : List ℕ) (step : Step (Unit {0})) (m : Me (Unit {0}) Seen) (found : ℕ) (n : Me (Unit {0}) Seen) : Type 0 where
+  pub at : (step.word ≡ 1) × (step.first ≡ 1)
   pub is : n ≡ (view_opened found node m.0, m.1)
   pub event : Happened m.0 (OpenNode m.0.pass.number node) (Drawn (if nat_lt found m.0.setting.problem.nodes then Some found else None)) n.0
 
@@ -51,13 +68,15 @@ pub record Lays (step : Step (Unit {0})) (m : Me (Unit {0}) Seen) (found : ℕ) 
   pub is : n ≡ (view_laid step.word step.first m.0, m.1)
   pub shown : (s : State) × IsShownIn s n.0
 
--- a head is stored
+-- the head of the row is stored
 pub record Publishes (slot : ℕ) (row : Row) (step : Step (Unit {0})) (m : Me (Unit {0}) Seen) (found : ℕ) (n : Me (Unit {0}) Seen) : Type 0 where
+  pub at : (step.word ≡ word_at slot 0) × (step.first ≡ head_of row)
   pub is : n ≡ (view_published slot row m.0, m.1)
   pub event : Happened m.0 (Publish m.0.pass.number slot row) Done n.0
 
 -- the head at the cursor is loaded
 pub record Looks (step : Step (Unit {0})) (m : Me (Unit {0}) Seen) (found : ℕ) (n : Me (Unit {0}) Seen) : Type 0 where
+  pub at : step.word ≡ word_at m.0.pass.cursor 0
   pub row : Option Row
   pub head : found ≡ head_at row
   pub good : (r : Row) → row ≡ Some r → IsRow r

@@ -1,9 +1,11 @@
-ghost use Rattle.std.specs.Prelude.{◌≡◌, ◌≢◌, ◌↔◌, ◌<◌, ◌≤◌, [], IsNone, IfSome};
+ghost use Rattle.std.specs.Prelude.{◌≡◌, ◌≢◌, ◌↔◌, ◌<◌, ◌≤◌, [], Some, IsNone, IfSome};
+ghost use Rattle.mr_nogood.specs.declared.row.Row.{Row};
 ghost use Rattle.mr_exchange.specs.declared.TheConstants.{SHORT};
 ghost use Rattle.mr_exchange.specs.declared.event.Event.TheVariants.{Claim, OpenNode, LookAt, Publish};
 ghost use Rattle.mr_exchange.specs.declared.event.Reply.TheVariants.{Cube, Ticket as Drawn, Seen, Done};
+ghost use Rattle.mr_exchange.specs.Events.{seen};
 ghost use Rattle.mr_exchange.specs.Board.{BoardFacts, CanOpen, CanPublish, Claimed, Opened, Looked, Published, pairs_shown};
-ghost use Rattle.mr_store.specs.Cards.{CardFacts, IsEvent, store_of, mark_of, held_by, word_of};
+ghost use Rattle.mr_store.specs.Cards.{CardFacts, IsEvent, IsThere, store_of, mark_of, held_by, word_of};
 
 use crate::card::Card;
 use crate::mark::MarkOf;
@@ -103,6 +105,8 @@ impl<'a, 'f> Board for Pass<'a, 'f> {
         ensures long { (result ≡ Look.Long) ↔ (SHORT < pairs_shown (held_by self.new).last_head) }
         ensures mark { mark_of self.new ≡ mark_of self.old }
         ensures event { IsEvent self.old (LookAt (mark_of self.old).number) (Seen result) self.new }
+        // Where the pass was told of a row, the look shows that row, or that it is long.
+        ensures there { (row : Row) → IsThere self.old (held_by self.old).cursor row → result ≡ seen (held_by self.old).cursor (Some row) }
     {
         self.card.look(self.store)
     }
@@ -112,6 +116,7 @@ impl<'a, 'f> Board for Pass<'a, 'f> {
         ensures moves { Published (held_by self.old) slot row.now (held_by self.new) }
         ensures mark { mark_of self.new ≡ mark_of self.old }
         ensures event { IsEvent self.old (Publish (mark_of self.old).number slot row.now) Done self.new }
+        ensures there { IsThere self.new slot row.now }
     {
         self.card.publish(self.store, slot, row)
     }

@@ -5,7 +5,7 @@ ghost use Rattle.mr_exchange.specs.Cubes.{IsProblemOf};
 ghost use Rattle.mr_nogood.specs.declared.row.Row.{Row};
 ghost use Rattle.mr_exchange.specs.State.{slots_of};
 ghost use Rattle.mr_exchange.specs.Board.{new_holding};
-ghost use Rattle.mr_store.specs.Cards.{CardFacts, store_of, mark_of, held_by};
+ghost use Rattle.mr_store.specs.Cards.{CardFacts, IsThere, store_of, mark_of, held_by};
 
 use crate::card::Card;
 use crate::key::Key;
@@ -78,7 +78,7 @@ impl<'f> Store<'f> {
         self.frame
     }
 
-    /// A new pass, which has and knows nothing.
+    /// A new pass, which has and knows nothing. It is told of each row of which the first was told, so that it meets them.
     pub fn split(&self, first: &mut Card) -> Card
         requires store { store_of first.old ≡ self.now }
         requires first { (mark_of first.old).number ≡ 0 }
@@ -87,6 +87,7 @@ impl<'f> Store<'f> {
         ensures kept { held_by first.new ≡ held_by first.old }
         ensures new { mark_of result ≡ record { store = self.now; number = (mark_of first.old).made; made = 1; joined = [] } }
         ensures nothing { held_by result ≡ new_holding self.now.setting.frame self.now.setting.problem }
+        ensures there { (slot : ℕ) (row : Row) → IsThere first.old slot row → IsThere first.new slot row × IsThere result slot row }
     {
         let seat = self.table.shared.split_seat::<Fork>(&mut first.seat);
         Card {
@@ -105,8 +106,10 @@ impl<'f> Store<'f> {
         ensures mark { mark_of first.new ≡ record (mark_of first.old) { joined = (mark_of first.old).joined ++ (mark_of other).number ∷ [] } }
         ensures cubes { (held_by first.new).cubes ≡ (held_by first.old).cubes ++ (held_by other).cubes }
         ensures tickets { (held_by first.new).tickets ≡ (held_by first.old).tickets ++ (held_by other).tickets }
-        // The other's rows stay where they are known.
+        // The first knows just what one of the two knew.
         ensures known { (slot : ℕ) (row : Row) → ((held_by first.new).known slot ≡ Some row) ↔ (((held_by first.old).known slot ≡ Some row) ⊎ ((held_by other).known slot ≡ Some row)) }
+        // It was told of each row of which one of the two was told.
+        ensures there { (slot : ℕ) (row : Row) → IsThere first.old slot row ⊎ IsThere other slot row → IsThere first.new slot row }
         // The two had nothing in common.
         ensures other_cubes { (x : ℕ) → Contains (held_by first.old).cubes x → ¬ (Contains (held_by other).cubes x) }
         ensures other_tickets { (t : ℕ) → Contains (slots_of (held_by first.old).tickets) t → ¬ (Contains (slots_of (held_by other).tickets) t) }

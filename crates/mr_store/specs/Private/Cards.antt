@@ -1,4 +1,4 @@
--- What callers see of a store, a card and a pass: words of private contracts and of the proofs.
+-- What the code keeps of a card beside what callers see of it.
 use Rattle.std.specs.Prelude.{◌≡◌, ℕ, []}
 pub use Rattle.atomic_table.specs.Seated.{TableId}
 use Rattle.atomic_table.specs.Table.{Me}

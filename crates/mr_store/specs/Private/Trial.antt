@@ -8,8 +8,9 @@ use Rattle.mr_store.specs.Cards.{StoreIs, CardIs, store_of, held_by}
 pub record HasClaimed (h : Holding) (cube : ℕ) : Type 0 where
   pub is : h ≡ record (new_holding h.frame h.problem) { cubes = cube ∷ [] }
 
--- it has this ticket, and knows no row
+-- it has this ticket, knows no row, and was not told that no cube is left
 pub record HasOpened (h : Holding) (ticket : ℕ) : Type 0 where
+  pub no_end : h.claim_ends ≡ 0
   pub tickets : slots_of h.tickets ≡ ticket ∷ []
   pub some : h.tickets ≢ []
   pub known : (slot : ℕ) → h.known slot ≡ None
