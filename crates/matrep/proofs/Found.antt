@@ -1,6 +1,6 @@
 -- What the merged answers of all cubes say of a search.
-use Rattle.std.proofs.Common.{◌≡◌, ◌≢◌, ℕ, zero, suc, ◌+◌, ◌-◌, ◌≤◌, ◌<◌, min, List, [], ◌∷◌, length, Some, refl, sym, ap, subst, ◌∙◌, ⊎_elim, arith, length-append}
-use Rattle.std.specs.Prelude.{Contains, flat_map, sum_by, slice_get}
+use Rattle.std.proofs.Common.{◌≡◌, ◌≢◌, Result, Err, ℕ, zero, suc, ◌+◌, ◌-◌, ◌≤◌, ◌<◌, min, List, [], ◌∷◌, length, Some, refl, sym, ap, subst, ◌∙◌, ⊎_elim, arith, length-append}
+use Rattle.std.specs.Prelude.{Contains, flat_map, sum_by, slice_get, IfErr}
 use Rattle.std.proofs.lemmas.Cmp.{nat_list_cmp_total}
 use Rattle.std.proofs.lemmas.List.Concat.{flat_map-cons}
 use Rattle.std.proofs.lemmas.List.Sums.{sum_by-cons}
@@ -13,7 +13,7 @@ use Rattle.mr_exchange.specs.declared.problem.Problem.{Problem}
 use Rattle.mr_exchange.specs.declared.answer.CubeAnswer.{CubeAnswer}
 use Rattle.mr_exchange.specs.declared.answer.CubeAnswer.TheVariants as answer
 use Rattle.mr_exchange.specs.declared.TheConstants.{NODES}
-use Rattle.mr_exchange.specs.Cubes.{IsProblemOf}
+use Rattle.mr_exchange.specs.Cubes.{IsProblemOf, problem_of}
 use Rattle.mr_exchange.specs.Closed.{ClosedIs, IsClosed}
 use Rattle.mr_exchange.specs.Right.{AreAnswers, AreCompletions}
 use Rattle.mr_log.specs.declared.log.Log.{Log}
@@ -22,7 +22,10 @@ use Rattle.mr_merge.specs.declared.merging.Merged.TheVariants.{Forms, Refuted}
 use Rattle.mr_merge.specs.Merged.{MatchMerged}
 use Rattle.mr_merge.specs.Private.Answers.{found_of}
 use Rattle.mr_merge.proofs.Boards.{forms_are}
-use Rattle.mr_pool.specs.Answers.{number_found, IsSearched}
+use Rattle.mr_pool.specs.declared.answer.PoolStop.{PoolStop}
+use Rattle.mr_pool.specs.declared.answer.PoolStop.TheVariants as pool
+use Rattle.mr_pool.specs.Answers.{number_found, IsSearched, IsSpent, IsStop}
+use Rattle.matrep.specs.Private.Searched.{IsSpentOn}
 
 -- the number of an answer's completions
 number_of : (a : CubeAnswer) → length (found_of a) ≡ number_found a
@@ -66,3 +69,10 @@ few_nodes f problem of =
     let is : problem.nodes ≡ of.nodes = ap (λ (p : Problem). p.nodes) of.is in
     let few = of.few_nodes in
     omega arith
+
+-- a search that was stopped at its budget
+pub spent_on : {A : Type 0} (f : Framed) (problem : Problem) (ran : Result A PoolStop) (stop : PoolStop) (closed : ClosedIs) (opened nodes split : ℕ) → problem ≡ problem_of f split nodes → IfErr ran (IsStop f problem) → ran ≡ Err stop → stop ≡ pool.Stopped closed → opened ≡ closed.opened → IsSpentOn f nodes split opened
+spent_on f problem ran stop closed opened nodes split is told failed stopped shown =
+    let spent : IsSpent f problem closed = subst (IsStop f problem) stopped (subst (λ r. IfErr r (IsStop f problem)) failed told) in
+    let of : IsSpent f (problem_of f split nodes) closed = subst (λ (p : Problem). IsSpent f p closed) is spent in
+    record { opened_is = shown ∙ of.opened; more = of.fewer }

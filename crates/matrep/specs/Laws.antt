@@ -87,7 +87,7 @@ PowersSuffice =
     (q workers nodes split opened sum : ℕ) (orbits : Bool) (f : Gf) (m : Presentation) (bytes text : List ℕ) →
     order f ≡ q → IsFileOf bytes m → IsEnoughFor f m split sum → sum ≤ nodes → ¬ (Allows (Solve q workers nodes split orbits) bytes (Stopped opened) text)
 
--- each matroid within the limits has both numbers over each field, and the need is the smaller
+-- each matroid within the limits has both numbers over each field, and the need is at most the other
 abbrev pub MatroidsHaveNeeds : Type 0
 MatroidsHaveNeeds =
     (f : Gf) (m : Presentation) (split : ℕ) → IsMatroid m → IsWithinLimits m → (n : ℕ) × (sum : ℕ) × IsNeedOf f m split n × IsEnoughFor f m split sum × (n ≤ sum)

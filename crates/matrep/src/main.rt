@@ -4,10 +4,16 @@
 mod check;
 #[cfg(test)]
 mod command_tests;
+#[cfg(test)]
+mod device_tests;
 mod ends;
 mod input;
 mod laws;
+#[cfg(test)]
+mod limit_tests;
 mod listing;
+#[cfg(test)]
+mod log_tests;
 mod matrices;
 mod meaning;
 mod minors;
@@ -28,7 +34,10 @@ mod values;
 #[cfg(test)]
 mod word_tests;
 mod words;
+#[cfg(test)]
+mod worker_tests;
 
+use mr_exchange::PASSES;
 use mr_io::{Silent, StdSink, StdSource};
 use std::alloc::{AllocError, Global};
 use std::env::{Env, FillError};
@@ -39,7 +48,7 @@ use std::process::ExitCode;
 pub const LOG_BYTES: usize = 268435456;
 
 /// The most workers of a solve.
-pub const WORKERS: u32 = 1;
+pub const WORKERS: u32 = PASSES;
 
 /// The most nodes that a solve opens where its words give no number.
 pub const DEFAULT_NODES: u32 = 20000;

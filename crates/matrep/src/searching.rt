@@ -1,18 +1,22 @@
-ghost use Rattle.std.specs.Prelude.{◌≤◌, ℕ, sum_by, IfOk};
+ghost use Rattle.std.specs.Prelude.{◌≡◌, ◌≤◌, ℕ, sum_by, IfOk, IfErr};
 ghost use Rattle.mr_nogood.specs.Follows.{in_slots};
 ghost use Rattle.mr_exchange.specs.declared.TheConstants.{NODES, SPLIT};
-ghost use Rattle.mr_exchange.specs.Cubes.{IsProblemOf};
+ghost use Rattle.mr_exchange.specs.Cubes.{IsProblemOf, problem_of};
 ghost use Rattle.mr_exchange.specs.Right.{AreAnswers};
-ghost use Rattle.mr_pool.specs.Answers.{AreFirst, IsSearched, number_found};
+ghost use Rattle.mr_pool.specs.Answers.{AreFirst, IsSearched, IsStop, number_found};
 ghost use Rattle.matrep.specs.Private.Searched.{IsSearchedTo};
 
+use crate::WORKERS;
 use mr_assign::AssignList;
 use mr_exchange::Problem;
 use mr_frame::Frame;
+use mr_io::Gate;
 use mr_log::Log;
 use mr_merge::{Merged, merge};
-use mr_pool::{PoolAnswer, PoolStop, run_one};
+use mr_pool::{PoolAnswer, PoolStop, run_one, run_pool};
 use std::alloc::{AllocError, Global};
+use std::sync::Wait;
+use std::thread::Threads;
 
 /// What a search over a frame ends with: all forms, in order, of which there are some; a log that refutes that there is
 /// one; or that as many nodes were opened as may be.
@@ -36,7 +40,51 @@ pub fn search_frame(
     ensures { IfOk result (IsSearchedTo frame.now nodes split) }
 {
     let problem = Problem::of(frame, split, nodes);
-    match run_one(alloc, frame, problem) {
+    searched_to(alloc, frame, problem, run_one(alloc, frame, problem))
+}
+
+/// The same with so many workers at once, each of which passes the gate after each call of its board.
+pub fn search_frame_by<R: Threads + Wait + Sync, G: Gate + Sync>(
+    rt: &R,
+    alloc: Global,
+    frame: &Frame,
+    workers: u32,
+    nodes: u32,
+    split: u32,
+    gate: &G,
+) -> Result<Searched, AllocError>
+    requires some_workers { 1 ≤ workers }
+    requires few_workers { workers ≤ WORKERS }
+    requires few_split { split ≤ SPLIT }
+    requires some_nodes { 1 ≤ nodes }
+    requires few_nodes { nodes ≤ NODES }
+    ensures { IfOk result (IsSearchedTo frame.now nodes split) }
+{
+    let problem = Problem::of(frame, split, nodes);
+    searched_to(
+        alloc,
+        frame,
+        problem,
+        run_pool(rt, alloc, frame, problem, workers, gate),
+    )
+}
+
+// What the search of all cubes of a problem ended with, by one worker or by several.
+fn searched_to(
+    alloc: Global,
+    frame: &Frame,
+    problem: Problem,
+    ran: Result<PoolAnswer, PoolStop>,
+) -> Result<Searched, AllocError>
+    requires problem { IsProblemOf frame.now problem }
+    requires answers { IfOk ran (λ answer. AreAnswers frame.now problem (in_slots answer.closed.rows) answer.answers) }
+    requires first { IfOk ran (λ answer. AreFirst frame.now problem answer.answers) }
+    requires found { IfOk ran (λ answer. sum_by number_found answer.answers ≤ answer.closed.opened) }
+    requires closed { IfOk ran (λ answer. IsSearched frame.now problem answer.closed) }
+    requires stopped { IfErr ran (IsStop frame.now problem) }
+    ensures { (nodes split : ℕ) → problem ≡ problem_of frame.now split nodes → IfOk result (IsSearchedTo frame.now nodes split) }
+{
+    match ran {
         Ok(answer) => merge_answers(alloc, frame, problem, &answer),
         Err(stop) => match stop {
             PoolStop::Stopped { closed } => Ok(Searched::Stopped {

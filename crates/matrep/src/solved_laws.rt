@@ -14,7 +14,7 @@ pub fn enough_nodes_suffice()
     ensures powers { PowersSuffice }
 {}
 
-/// Each matroid within the limits has both numbers over each field, and its need is the smaller.
+/// Each matroid within the limits has both numbers over each field, and its need is at most the other.
 pub fn matroids_have_needs()
     ensures { MatroidsHaveNeeds }
 {}

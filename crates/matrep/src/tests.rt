@@ -27,7 +27,7 @@ pub(crate) fn strings(alloc: Global, words: &[&str]) -> Result<Vec<String>, Fail
 }
 
 // The status of a run.
-fn status_of<R: Threads + Wait + Sync, I: Source>(
+pub(crate) fn status_of<R: Threads + Wait + Sync, I: Source>(
     rt: &R,
     alloc: Global,
     words: &[&str],
@@ -154,6 +154,67 @@ fn a_command_is_run_with_its_operands(rt: HostRuntime) -> Result<(), Fail> {
     ];
     for (words, status, text) in cases {
         let mut source = SureSource::new(alloc, U24)?;
+        let mut sink = MemSink::new(alloc, 100, 4096, [].as_slice())?;
+        assert_eq!(rt;
+            status_of(&rt, alloc, words, &mut source, &mut sink)?,
+            status
+        );
+        assert_eq!(rt; sink.held(), text);
+    }
+    Ok(())
+}
+
+// Each command through the whole program. A minor by a point that is left out and one that is contracted, of the plane of seven points:
+// the lines through the second become two pairs of parallel elements and one alone.
+#[test]
+fn each_command_is_run_to_its_end(rt: HostRuntime) -> Result<(), Fail> {
+    let alloc = rt.alloc();
+    let cases: [(&[&str], &[u8], u8, &[u8]); 7] = [
+        (
+            &["minor", "delete=6", "contract=0"],
+            FANO,
+            0,
+            b"matroid 1\nelements 5\nrank 2\nnonbases 2\n0 2\n1 3\nend\n",
+        ),
+        (
+            &["confirm", "field=3"],
+            b"matroid 1\nelements 4\nrank 2\nnonbases 0\nend\nmatrix 3 2 4\n1 0 1 1\n0 1 1 2\nend\n",
+            0,
+            b"confirmed\n",
+        ),
+        (
+            &["confirm", "field=3"],
+            b"matroid 1\nelements 4\nrank 2\nnonbases 0\nend\nmatrix 3 2 4\n1 0 1 1\n0 1 1 1\nend\n",
+            1,
+            b"differs 2 3\n",
+        ),
+        (
+            &["matroid", "field=3"],
+            b"matrix 3 2 4\n1 0 1 1\n0 1 1 2\nend\n",
+            0,
+            U24,
+        ),
+        (
+            &["plane", "order=4"],
+            b"",
+            0,
+            b"plane 4 elements 21 nonbases 210 classes 2\n",
+        ),
+        (
+            &["solve", "field=4", "workers=2", "classes=auto"],
+            U24,
+            0,
+            b"orbits 1 field 4\norbit 2\nmatrix 4 2 4\n1 0 1 1\n0 1 1 2\nend\n",
+        ),
+        (
+            &["solve", "field=3", "workers=64", "split=4"],
+            U24,
+            0,
+            b"representations 1 field 3\nmatrix 3 2 4\n1 0 1 1\n0 1 1 2\nend\n",
+        ),
+    ];
+    for (words, input, status, text) in cases {
+        let mut source = SureSource::new(alloc, input)?;
         let mut sink = MemSink::new(alloc, 100, 4096, [].as_slice())?;
         assert_eq!(rt;
             status_of(&rt, alloc, words, &mut source, &mut sink)?,

@@ -13,12 +13,14 @@ use Rattle.mr_exchange.specs.declared.answer.CubeAnswer.{CubeAnswer}
 use Rattle.mr_exchange.specs.declared.answer.CubeAnswer.TheVariants.{Found, Refuted}
 use Rattle.mr_exchange.specs.Cubes.{cube_at, cube_count}
 use Rattle.mr_exchange.specs.Right.{IsRight}
-use Rattle.mr_search.specs.Nodes.{IsNodeOfCube}
+use Rattle.mr_search.specs.Nodes.{IsNodeOfCube, HoldsOfMany}
+use Rattle.mr_search.specs.Search.{AreNodes}
 use Rattle.mr_search.specs.Laws.{AreShared}
 use Rattle.mr_search.proofs.Listing.{nodes_append, nodes_map, opened_left, opened_right}
 use Rattle.mr_pool.specs.Answers.{number_found}
 use Rattle.mr_pool.specs.Private.Answers.{IsNodeOfOne, HasAnswered}
 use Rattle.std.proofs.lemmas.List.Sums.{fold-append, sum_by_from}
+use Rattle.mr_pool.proofs.Places.{many_join}
 use Rattle.mr_pool.proofs.Serving.{still_right}
 
 -- what stands at a place of two lists that are put together
@@ -56,6 +58,31 @@ module _ (P : ℕ → CubeAnswer → Type 0) (cubes others : List ℕ) (answers 
       (get_append cubes others k c at))
       (get_append answers further k z there)
 
+-- Two passes have no cube in common.
+module _ (f : Framed) (depth : ℕ) (shared : AreShared f depth) (cubes others : List ℕ) (low : (c : ℕ) → Contains cubes c → c < cube_count f depth) (low' : (c : ℕ) → Contains others c → c < cube_count f depth) (apart : (c : ℕ) → Contains cubes c → ¬ (Contains others c)) where
+  -- a node of the first is one of both
+  of_first : (a : List ℕ) → IsNodeOfOne f depth cubes a → IsNodeOfOne f depth (cubes ++ others) a
+  of_first a node = record { cube = node.cube; among = Contains-append_left cubes others node.cube node.among; is = node.is }
+
+  -- so is one of the second
+  of_second : (a : List ℕ) → IsNodeOfOne f depth others a → IsNodeOfOne f depth (cubes ++ others) a
+  of_second a node = record { cube = node.cube; among = Contains-append_right cubes others node.cube node.among; is = node.is }
+
+  -- no node is one of each
+  nodes_apart : (a : List ℕ) → IsNodeOfOne f depth cubes a → ¬ (IsNodeOfOne f depth others a)
+  nodes_apart a p q = apart p.cube p.among (subst (Contains others) (sym (shared.one p.cube q.cube a (low p.cube p.among) (low' q.cube q.among) p.is q.is)) q.among)
+
+  -- what both opened are different nodes
+  pub joined_nodes : (tickets more : List Ticket) → AreNodes (IsNodeOfOne f depth cubes) tickets → AreNodes (IsNodeOfOne f depth others) more → AreNodes (IsNodeOfOne f depth (cubes ++ others)) (tickets ++ more)
+  joined_nodes tickets more first second = nodes_append (IsNodeOfOne f depth (cubes ++ others)) tickets more
+      (nodes_map (IsNodeOfOne f depth cubes) (IsNodeOfOne f depth (cubes ++ others)) tickets of_first first)
+      (nodes_map (IsNodeOfOne f depth others) (IsNodeOfOne f depth (cubes ++ others)) more of_second second)
+      (λ s t x y same. nodes_apart t.node (subst (IsNodeOfOne f depth cubes) same (first.each s x)) (second.each t y))
+
+  -- there are as many nodes together
+  pub joined_many : (m n : ℕ) → HoldsOfMany (IsNodeOfOne f depth cubes) m → HoldsOfMany (IsNodeOfOne f depth others) n → HoldsOfMany (IsNodeOfOne f depth (cubes ++ others)) (m + n)
+  joined_many m n = many_join (IsNodeOfOne f depth cubes) (IsNodeOfOne f depth others) (IsNodeOfOne f depth (cubes ++ others)) m n of_first of_second nodes_apart
+
 -- Two passes have no cube in common: what both answered, where the rows that each knew are known.
 pub joined : (f : Framed) (depth : ℕ) → AreShared f depth → (cubes others : List ℕ) → ((c : ℕ) → Contains cubes c → c < cube_count f depth) → ((c : ℕ) → Contains others c → c < cube_count f depth) → ((c : ℕ) → Contains cubes c → ¬ (Contains others c))
     → (tickets more : List Ticket) (rows rows' all : Rows) (answers further : List CubeAnswer) → ((s : ℕ) (row : Row) → rows s ≡ Some row → all s ≡ Some row) → ((s : ℕ) (row : Row) → rows' s ≡ Some row → all s ≡ Some row)
@@ -73,9 +100,5 @@ joined f depth shared cubes others low low' apart tickets more rows rows' all an
       (λ (late : IsLater answers further k (Found xs)). opened_right tickets more c (second.opened late.place xs c late.there has))
       (get_append answers further k (Found xs) there);
   few = (let a = length-append tickets more in let b = sum_append number_found answers further in let c = first.few in let d = second.few in omega arith);
-  nodes = nodes_append (IsNodeOfOne f depth (cubes ++ others)) tickets more
-      (nodes_map (IsNodeOfOne f depth cubes) (IsNodeOfOne f depth (cubes ++ others)) tickets (λ a node. record { cube = node.cube; among = Contains-append_left cubes others node.cube node.among; is = node.is }) first.nodes)
-      (nodes_map (IsNodeOfOne f depth others) (IsNodeOfOne f depth (cubes ++ others)) more (λ a node. record { cube = node.cube; among = Contains-append_right cubes others node.cube node.among; is = node.is }) second.nodes)
-      (λ s t x y same. (let p = first.nodes.each s x in let q = second.nodes.each t y in
-      apart p.cube p.among (subst (Contains others) (sym (shared.one p.cube q.cube t.node (low p.cube p.among) (low' q.cube q.among) (subst (λ n. IsNodeOfCube f depth p.cube n) same p.is) q.is)) q.among)));
+  nodes = joined_nodes f depth shared cubes others low low' apart tickets more first.nodes second.nodes;
 }

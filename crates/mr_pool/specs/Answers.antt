@@ -1,4 +1,4 @@
--- The answers of all cubes, and what a pass has answered.
+-- The answers of all cubes, and what the closed board of a search shows.
 use Rattle.std.specs.Prelude.{◌≡◌, ℕ, ◌+◌, List, length, Some, slice_get}
 use Rattle.mr_frame.specs.Frame.{Framed}
 use Rattle.mr_frame.specs.Test.{IsFirstFailing}

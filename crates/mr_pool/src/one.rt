@@ -6,9 +6,10 @@ ghost use Rattle.mr_search.specs.Nodes.{IsNeed};
 ghost use Rattle.mr_exchange.specs.Right.{AreAnswers};
 ghost use Rattle.mr_pool.specs.Answers.{AreFirst, IsSearched, IsStop, number_found};
 
+use crate::answered::in_list;
 use crate::cubes::search_cubes;
 use crate::{PoolAnswer, PoolStop};
-use mr_exchange::{AnswerList, Board, PlainBoard, Problem};
+use mr_exchange::{Board, PlainBoard, Problem};
 use mr_frame::Frame;
 use mr_propagate::Index;
 use mr_search::SearchStop;
@@ -29,15 +30,18 @@ pub fn run_one(alloc: Global, frame: &Frame, problem: Problem) -> Result<PoolAns
 {
     let mut board = PlainBoard::new(alloc, frame, problem)?;
     let mut index = Index::new(alloc, frame)?;
-    let mut answers = AnswerList::new(alloc);
-    let searched = search_cubes(alloc, &mut board, &mut index, &mut answers);
+    let mut list = Vec::new(alloc);
+    let searched = search_cubes(alloc, &mut board, &mut index, &mut list);
     // The clauses of `problem` say that the cubes are in order.
     let _problem = board.problem();
     match searched {
-        Ok(()) => Ok(PoolAnswer {
-            answers,
-            closed: board.close(),
-        }),
+        Ok(()) => {
+            let answers = in_list(alloc, list)?;
+            Ok(PoolAnswer {
+                answers,
+                closed: board.close(),
+            })
+        }
         Err(stop) => match stop {
             SearchStop::Over => Err(PoolStop::Stopped {
                 closed: board.close(),

@@ -1,4 +1,4 @@
--- The answers of all cubes, and what a pass has answered: words of private contracts and of the proofs.
+-- What a pass has answered: words of private contracts and of the proofs.
 use Rattle.std.specs.Prelude.{◌≡◌, ℕ, ◌≤◌, List, length, sum_by, Contains, Some, slice_get}
 use Rattle.mr_frame.specs.Frame.{Framed}
 use Rattle.mr_frame.specs.Test.{IsFirstFailing}

@@ -1,6 +1,6 @@
 use Rattle.std.proofs.Common.{◌≡◌, ◌+◌, ◌-◌, length}
 use Rattle.mr_search.specs.Search.{IsReady}
-use Rattle.mr_pool.specs.Private.Answers.{HasServed}
+use Rattle.mr_pool.specs.Private.Lists.{HasListed}
 use Rattle.mr_pool.proofs.cubes.search_cubes.Given as goal
 
 -- each cube that was claimed is answered, and the pass is ready for the next
@@ -11,7 +11,7 @@ invariant-loop-cube g l = record {
   mark : g.B.Board.mark l.board ≡ g.B.Board.mark l.initial.board;
   no_end : (g.B.Board.holding l.board).claim_ends ≡ 0;
   ready : IsReady (g.B.Board.holding l.board) l.index;
-  served : HasServed (g.B.Board.holding l.board) l.answers;
+  served : HasListed (g.B.Board.holding l.board) l.list.items;
 }
 
 -- how many cubes are left, and the claim that gives none
