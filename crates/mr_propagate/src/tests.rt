@@ -1,6 +1,6 @@
 ghost use Rattle.std.specs.Prelude.{◌↔◌, ◌<◌, ◌≤◌, IsTrue, length};
 ghost use Rattle.mr_field.specs.Gf.{order};
-ghost use Rattle.mr_assign.specs.declared.TheConstants.{VALUES};
+ghost use Rattle.mr_assign.specs.declared.TheConstants.{POSITIONS, VALUES};
 ghost use Rattle.mr_frame.specs.Test.{IsAssignmentOf};
 ghost use Rattle.mr_propagate.specs.Index.{IsFilledBelow};
 
@@ -69,6 +69,7 @@ fn learn(index: &mut Index, slot: u32, row: &Row) -> Result<(), Fail> {
 fn has_value(frame: &Frame, node: &Assign, p: u32, v: u8) -> bool
     ensures assignment { IsTrue result → IsAssignmentOf frame.now node.now }
     ensures position { IsTrue result → p < length frame.now.places }
+    ensures place { IsTrue result → p < POSITIONS }
     ensures value { IsTrue result → (0 < v) × (v < order frame.now.field) }
     ensures limit { IsTrue result → v ≤ VALUES }
 {
