@@ -114,13 +114,13 @@ numbers_within (line_of table due) number bytes x rest next (a, after, line, mor
     omega arith
 
 -- the sets, whatever is due after the file
-sets_sharp : {X : Type 0} (n r k : ℕ) (sets : List (List ℕ)) (last : Option (List ℕ)) (due : Presentation → Format Measure X) → n ≤ 32 → ((m : Presentation) → m.elements ≤ 32 → IsSharp (due m)) → IsSharp (set_lines n r k sets last (end_line n r)) → IsSharp (set_lines n r k sets last (after_sets n r due))
+sets_sharp : {X : Type 0} (n r k : ℕ) (sets : List (List ℕ)) (last : Option (List ℕ)) (due : Presentation → Format Measure X) → n ≤ ELEMENTS → ((m : Presentation) → m.elements ≤ ELEMENTS → IsSharp (due m)) → IsSharp (set_lines n r k sets last (end_line n r)) → IsSharp (set_lines n r k sets last (after_sets n r due))
 unfolding set_lines
 sets_sharp n r zero sets last due limit then sharp = (sharp.0, λ line a spelled fits. then (record { elements = n; rank = r; nonbases = sets }) limit)
 sets_sharp n r (suc k) sets last due limit then sharp = (sharp.0, λ line x spelled fits. sets_sharp n r k (sets ++ x ∷ []) (Some x) due limit then (sharp.1 line x spelled fits))
 
 -- the file, whatever is due after it
-pub file_then_sharp : {X : Type 0} (due : Presentation → Format Measure X) → ((m : Presentation) → m.elements ≤ 32 → IsSharp (due m)) → IsSharp (file due)
+pub file_then_sharp : {X : Type 0} (due : Presentation → Format Measure X) → ((m : Presentation) → m.elements ≤ ELEMENTS → IsSharp (due m)) → IsSharp (file due)
 file_then_sharp due then = by_file file_sharp
   where
     by_file : IsSharp whole_file → IsSharp (file due)

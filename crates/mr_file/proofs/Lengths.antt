@@ -1,11 +1,13 @@
 -- How long the file of a matroid may be.
-use Rattle.std.proofs.Common.{◌≡◌, ℕ, suc, ◌+◌, ◌*◌, ◌^◌, ◌<◌, ◌≤◌, List, [], ◌∷◌, ◌++◌, length, map, ap, arith, codes}
+use Rattle.std.proofs.Common.{◌≡◌, ℕ, suc, ◌+◌, ◌*◌, ◌<◌, ◌≤◌, List, [], ◌∷◌, ◌++◌, length, map, ap, arith, codes}
 use Rattle.std.specs.Prelude.{All, decimal}
 use Rattle.std.proofs.lemmas.Fmt.{length-decimal-le}
 use Rattle.std.proofs.lemmas.List.{length-append}
 use Rattle.std.proofs.lemmas.List.Concat.{flat_map-cons}
+use Rattle.mr_set.specs.declared.TheConstants.{ELEMENTS, SETS}
 use Rattle.mr_set.specs.Subsets.{IsSetOf, choose}
 use Rattle.mr_set.proofs.Counting.{no_more_sets}
+use Rattle.mr_text.specs.declared.TheConstants.{NUMBERS}
 use Rattle.mr_text.specs.Text.{numbers_text, set_text, text_of_lines}
 use Rattle.mr_file.specs.Laws.{FileLength}
 
@@ -18,28 +20,28 @@ line_length l ls =
     omega arith
 
 -- a key and a number
-pub keyed_length : (key : List ℕ) (v : ℕ) → v < 10 ^ 9 → length (key ++ decimal v) ≤ length key + 9
+pub keyed_length : (key : List ℕ) (v : ℕ) → v < NUMBERS → length (key ++ decimal v) ≤ length key + 9
 keyed_length key v small =
     let short = length-decimal-le 9 v (omega arith) small (omega arith) in
     let both = length-append key (decimal v) in
     omega arith
 
--- numbers below 32
-pub numbers_length : (x : List ℕ) → All (λ e. e < 32) x → length (numbers_text x) ≤ 3 * length x
+-- numbers of elements
+pub numbers_length : (x : List ℕ) → All (λ e. e < ELEMENTS) x → length (numbers_text x) ≤ 3 * length x
 numbers_length [] all = omega arith
 numbers_length (e ∷ []) all =
-    let low : e < 32 = all 0 e (omega arith) in
+    let low : e < ELEMENTS = all 0 e (omega arith) in
     let short = length-decimal-le 2 e (omega arith) (omega arith) (omega arith) in
     omega arith
 numbers_length (e ∷ d ∷ es) all =
-    let low : e < 32 = all 0 e (omega arith) in
+    let low : e < ELEMENTS = all 0 e (omega arith) in
     let short = length-decimal-le 2 e (omega arith) (omega arith) (omega arith) in
     let others = numbers_length (d ∷ es) (λ k c lt. all (suc k) c (omega arith)) in
     let both = length-append (decimal e) (32 ∷ numbers_text (d ∷ es)) in
     omega arith
 
 -- a set
-pub set_length : (n r : ℕ) (x : List ℕ) → n ≤ 32 → r ≤ 32 → IsSetOf n r x → length (set_text x) ≤ 96
+pub set_length : (n r : ℕ) (x : List ℕ) → n ≤ ELEMENTS → r ≤ ELEMENTS → IsSetOf n r x → length (set_text x) ≤ 96
 set_length n r [] limit most is = omega arith
 set_length n r (e ∷ es) limit most is =
     let size = is.size in
@@ -47,7 +49,7 @@ set_length n r (e ∷ es) limit most is =
     omega arith
 
 -- sets and the last line
-sets_length : (n r : ℕ) (sets : List (List ℕ)) → n ≤ 32 → r ≤ 32 → All (IsSetOf n r) sets → length (text_of_lines (map set_text sets ++ codes "end" ∷ [])) ≤ 97 * length sets + 4
+sets_length : (n r : ℕ) (sets : List (List ℕ)) → n ≤ ELEMENTS → r ≤ ELEMENTS → All (IsSetOf n r) sets → length (text_of_lines (map set_text sets ++ codes "end" ∷ [])) ≤ 97 * length sets + 4
 sets_length n r [] limit most all = let line = line_length (codes "end") [] in omega arith
 sets_length n r (x ∷ sets) limit most all =
     let here = set_length n r x limit most (all 0 x (omega arith)) in
@@ -58,8 +60,8 @@ sets_length n r (x ∷ sets) limit most all =
 -- numbers and sets within the limits have a short file
 pub file_length : FileLength
 file_length m is limits =
-    let elements : m.elements ≤ 32 = limits.elements in
-    let sets : choose m.elements m.rank ≤ 5000 = limits.sets in
+    let elements : m.elements ≤ ELEMENTS = limits.elements in
+    let sets : choose m.elements m.rank ≤ SETS = limits.sets in
     let rank = is.rank in
     let count = no_more_sets m.elements m.rank m.nonbases is.sets is.increasing in
     let last = map set_text m.nonbases ++ codes "end" ∷ [] in

@@ -1,8 +1,10 @@
 -- Sets as their numbers with spaces between them.
 use Rattle.std.proofs.Common.{◌≡◌, ℕ, suc, ◌+◌, ◌-◌, ◌≤◌, List, [], ◌∷◌, ◌++◌, refl, sym, ap, subst, ◌∙◌, arith, Option, Some, None, false}
-use Rattle.std.specs.Prelude.{codes, ◌<◌, ◌^◌, ◌↔◌, decimal}
+use Rattle.std.specs.Prelude.{codes, ◌<◌, ◌↔◌, decimal}
+use Rattle.mr_set.specs.declared.TheConstants.{ELEMENTS}
 use Rattle.mr_set.specs.Elements.{is_element, with_element}
 use Rattle.mr_set.proofs.Sorted.{all_head, all_tail, all_cons, below_all, all_above, sorted_cons, sorted_parts, sorted_none, with_front}
+use Rattle.mr_text.specs.declared.TheConstants.{NUMBERS}
 use Rattle.mr_text.specs.Text.{numbers_text}
 use Rattle.mr_file.specs.Private.Numbers.{AreNumbersFrom, SpellsSet}
 use Rattle.mr_text.proofs.Formats.{same_parts, has_separator}
@@ -10,7 +12,7 @@ use Rattle.mr_text.proofs.Decimals.{decimal_without}
 
 -- what a number's reader says
 abbrev Reads : Option ℕ → List ℕ → Type 0
-Reads r word = (v : ℕ) → (r ≡ Some v) ↔ ((v < 10 ^ 9) × (word ≡ decimal v))
+Reads r word = (v : ℕ) → (r ≡ Some v) ↔ ((v < NUMBERS) × (word ≡ decimal v))
 
 -- one number
 one : (low n : ℕ) (word x : List ℕ) → AreNumbersFrom low n 1 word x → (y : ℕ) × (x ≡ y ∷ []) × (word ≡ decimal y) × (low ≤ y) × (y < n)
@@ -19,7 +21,7 @@ one low n word (y ∷ []) are = (y, refl, are.text, all_head (λ e. low ≤ e) y
 one low n word (y ∷ z ∷ zs) are = let e = are.set.size in absurd (omega arith)
 
 -- the word of the last element, which is read
-pub last_found : (low n e : ℕ) (word : List ℕ) (r : Option ℕ) → n ≤ 32 → Reads r word → r ≡ Some e → low ≤ e → e < n → (x : List ℕ) → (Some (with_element e []) ≡ Some x) ↔ AreNumbersFrom low n 1 word x
+pub last_found : (low n e : ℕ) (word : List ℕ) (r : Option ℕ) → n ≤ ELEMENTS → Reads r word → r ≡ Some e → low ≤ e → e < n → (x : List ℕ) → (Some (with_element e []) ≡ Some x) ↔ AreNumbersFrom low n 1 word x
 last_found low n e word r limit reads is from within x = (
   λ same. subst (AreNumbersFrom low n 1 word) (let h : e ∷ [] ≡ x = cc in h) record {
     set = record { set = record { increasing = sorted_cons e [] tt sorted_none; elements = all_cons (λ k. k < n) e [] within (λ k d lt. absurd (omega arith)) }; size = refl };
@@ -35,7 +37,7 @@ last_found low n e word r limit reads is from within x = (
 )
 
 -- a word that is no number
-pub last_none : (low n : ℕ) (word : List ℕ) (r : Option ℕ) → n ≤ 32 → Reads r word → r ≡ None → (x : List ℕ) → (◌≡◌ {A = Option (List ℕ)} None (Some x)) ↔ AreNumbersFrom low n 1 word x
+pub last_none : (low n : ℕ) (word : List ℕ) (r : Option ℕ) → n ≤ ELEMENTS → Reads r word → r ≡ None → (x : List ℕ) → (◌≡◌ {A = Option (List ℕ)} None (Some x)) ↔ AreNumbersFrom low n 1 word x
 last_none low n word r limit reads is x = (
   λ same. cc,
   λ are.
@@ -45,7 +47,7 @@ last_none low n word r limit reads is x = (
 )
 
 -- a number that is too small or too large
-pub last_out : (low n e : ℕ) (word : List ℕ) (r : Option ℕ) → n ≤ 32 → Reads r word → r ≡ Some e → ((low ≤ e) × (e < n) → ⊥) → (x : List ℕ) → (◌≡◌ {A = Option (List ℕ)} None (Some x)) ↔ AreNumbersFrom low n 1 word x
+pub last_out : (low n e : ℕ) (word : List ℕ) (r : Option ℕ) → n ≤ ELEMENTS → Reads r word → r ≡ Some e → ((low ≤ e) × (e < n) → ⊥) → (x : List ℕ) → (◌≡◌ {A = Option (List ℕ)} None (Some x)) ↔ AreNumbersFrom low n 1 word x
 last_out low n e word r limit reads is out x = (
   λ same. cc,
   λ are.
@@ -96,17 +98,17 @@ pub record FirstOf (low n k : ℕ) (word rest x : List ℕ) : Type 0 where
   pub others : List ℕ
   pub parts : x ≡ first ∷ others
   pub spelled : word ≡ decimal first
-  pub small : first < 10 ^ 9
+  pub small : first < NUMBERS
   pub from : low ≤ first
   pub within : first < n
   pub more : AreNumbersFrom (first + 1) n k rest others
 
 -- the first word is the first number
-pub split_first : (low n k : ℕ) (line word rest x : List ℕ) → n ≤ 32 → line ≡ word ++ 32 ∷ rest → is_element word 32 ≡ false → AreNumbersFrom low n (suc (suc k)) line x → FirstOf low n (suc k) word rest x
+pub split_first : (low n k : ℕ) (line word rest x : List ℕ) → n ≤ ELEMENTS → line ≡ word ++ 32 ∷ rest → is_element word 32 ≡ false → AreNumbersFrom low n (suc (suc k)) line x → FirstOf low n (suc k) word rest x
 split_first low n k line word rest x limit is none are =
     let found = first_of_more low n k line x are in
     let y = found.0 in
-    let small : y < 10 ^ 9 = (let h = found.5 in omega arith) in
+    let small : y < NUMBERS = (let h = found.5 in omega arith) in
     let both = same_parts 32 word (decimal y) rest (numbers_text found.1) none (decimal_without 32 y (omega arith) small) (sym is ∙ found.3) in
     record {
       first = y;
@@ -131,7 +133,7 @@ unsplit low n count k line is none x = (
 )
 
 -- a first word that is no number
-pub first_none : (low n count k : ℕ) (line word rest : List ℕ) (r : Option ℕ) → n ≤ 32 → count ≡ suc (suc k) → line ≡ word ++ 32 ∷ rest → is_element word 32 ≡ false → Reads r word → r ≡ None → (x : List ℕ) → (◌≡◌ {A = Option (List ℕ)} None (Some x)) ↔ AreNumbersFrom low n count line x
+pub first_none : (low n count k : ℕ) (line word rest : List ℕ) (r : Option ℕ) → n ≤ ELEMENTS → count ≡ suc (suc k) → line ≡ word ++ 32 ∷ rest → is_element word 32 ≡ false → Reads r word → r ≡ None → (x : List ℕ) → (◌≡◌ {A = Option (List ℕ)} None (Some x)) ↔ AreNumbersFrom low n count line x
 first_none low n count k line word rest r limit is line_is none reads nothing x = (
   λ same. cc,
   λ are.
@@ -141,7 +143,7 @@ first_none low n count k line word rest r limit is line_is none reads nothing x 
 )
 
 -- a first number that is too small or too large
-pub first_out : (low n count k e : ℕ) (line word rest : List ℕ) (r : Option ℕ) → n ≤ 32 → count ≡ suc (suc k) → line ≡ word ++ 32 ∷ rest → is_element word 32 ≡ false → Reads r word → r ≡ Some e → ((low ≤ e) × (e < n) → ⊥) → (x : List ℕ) → (◌≡◌ {A = Option (List ℕ)} None (Some x)) ↔ AreNumbersFrom low n count line x
+pub first_out : (low n count k e : ℕ) (line word rest : List ℕ) (r : Option ℕ) → n ≤ ELEMENTS → count ≡ suc (suc k) → line ≡ word ++ 32 ∷ rest → is_element word 32 ≡ false → Reads r word → r ≡ Some e → ((low ≤ e) × (e < n) → ⊥) → (x : List ℕ) → (◌≡◌ {A = Option (List ℕ)} None (Some x)) ↔ AreNumbersFrom low n count line x
 first_out low n count k e line word rest r limit is line_is none reads some out x = (
   λ same. cc,
   λ are.
@@ -156,7 +158,7 @@ abbrev Inner : ℕ → ℕ → ℕ → List ℕ → Option (List ℕ) → Type 0
 Inner low n k rest inner = (z : List ℕ) → (inner ≡ Some z) ↔ AreNumbersFrom low n k rest z
 
 -- the other numbers aren't spelled
-pub others_none : (low n count k e : ℕ) (line word rest : List ℕ) (r : Option ℕ) (inner : Option (List ℕ)) → n ≤ 32 → count ≡ suc (suc k) → line ≡ word ++ 32 ∷ rest → is_element word 32 ≡ false → Reads r word → r ≡ Some e → Inner (e + 1) n (count - 1) rest inner → inner ≡ None → (x : List ℕ) → (◌≡◌ {A = Option (List ℕ)} None (Some x)) ↔ AreNumbersFrom low n count line x
+pub others_none : (low n count k e : ℕ) (line word rest : List ℕ) (r : Option ℕ) (inner : Option (List ℕ)) → n ≤ ELEMENTS → count ≡ suc (suc k) → line ≡ word ++ 32 ∷ rest → is_element word 32 ≡ false → Reads r word → r ≡ Some e → Inner (e + 1) n (count - 1) rest inner → inner ≡ None → (x : List ℕ) → (◌≡◌ {A = Option (List ℕ)} None (Some x)) ↔ AreNumbersFrom low n count line x
 others_none low n count k e line word rest r inner limit is line_is none reads some answers nothing x = (
   λ same. cc,
   λ are.
@@ -170,7 +172,7 @@ others_none low n count k e line word rest r inner limit is line_is none reads s
 )
 
 -- the other numbers are read
-pub others_found : (low n count k e : ℕ) (line word rest others : List ℕ) (r : Option ℕ) (inner : Option (List ℕ)) → n ≤ 32 → count ≡ suc (suc k) → line ≡ word ++ 32 ∷ rest → is_element word 32 ≡ false → Reads r word → r ≡ Some e → (low ≤ e) × (e < n) → Inner (e + 1) n (count - 1) rest inner → inner ≡ Some others → (x : List ℕ) → (Some (with_element e others) ≡ Some x) ↔ AreNumbersFrom low n count line x
+pub others_found : (low n count k e : ℕ) (line word rest others : List ℕ) (r : Option ℕ) (inner : Option (List ℕ)) → n ≤ ELEMENTS → count ≡ suc (suc k) → line ≡ word ++ 32 ∷ rest → is_element word 32 ≡ false → Reads r word → r ≡ Some e → (low ≤ e) × (e < n) → Inner (e + 1) n (count - 1) rest inner → inner ≡ Some others → (x : List ℕ) → (Some (with_element e others) ≡ Some x) ↔ AreNumbersFrom low n count line x
 others_found low n count k e line word rest others r inner limit is line_is none reads some within answers got x = (
   λ same.
       let whole = more low n e (suc k) word rest others (omega arith) within.0 within.1 ((reads e).0 some).1 own in

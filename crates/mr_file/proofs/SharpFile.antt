@@ -1,10 +1,11 @@
 -- A line of a matroid file spells one value.
 use Rattle.std.proofs.Common.{◌≡◌, ℕ, zero, suc, ◌≤◌, List, [], ◌∷◌, ◌++◌, length, refl, sym, ap, ◌∙◌, arith, Option, Some, None, codes}
-use Rattle.std.specs.Prelude.{◌<◌, ◌^◌, All, decimal}
+use Rattle.std.specs.Prelude.{◌<◌, All, decimal}
 use Rattle.std.proofs.lemmas.List.{append_cancel_left}
 use Rattle.mr_set.specs.Elements.{is_element}
 use Rattle.mr_set.specs.Subsets.{IsSetOf}
 use Rattle.mr_set.specs.declared.TheConstants.{ELEMENTS}
+use Rattle.mr_text.specs.declared.TheConstants.{NUMBERS}
 use Rattle.mr_text.specs.Text.{numbers_text, set_text}
 use Rattle.mr_text.specs.Tables.{keyed}
 use Rattle.mr_text.specs.Private.Sharp.{IsSharpTable, IsSharp}
@@ -58,22 +59,22 @@ count_one k r v Nonbases Sets p q = absurd q
 count_one k r v Nonbases Nonbases p q = refl
 
 -- the first element has at most nine digits
-small_head : (x : ℕ) (xs : List ℕ) → All (λ e. e < 32) (x ∷ xs) → x < 10 ^ 9
+small_head : (x : ℕ) (xs : List ℕ) → All (λ e. e < ELEMENTS) (x ∷ xs) → x < NUMBERS
 small_head x xs all = let h = all 0 x (omega arith) in omega arith
 
 -- the others are small too
-small_tail : (x : ℕ) (xs : List ℕ) → All (λ e. e < 32) (x ∷ xs) → All (λ e. e < 32) xs
+small_tail : (x : ℕ) (xs : List ℕ) → All (λ e. e < ELEMENTS) (x ∷ xs) → All (λ e. e < ELEMENTS) xs
 small_tail x xs all k d lt = all (suc k) d (omega arith)
 
 -- one number is no longer listing
-lone : (e f : ℕ) (rest : List ℕ) → e < 10 ^ 9 → decimal e ≡ decimal f ++ 32 ∷ rest → ⊥
+lone : (e f : ℕ) (rest : List ℕ) → e < NUMBERS → decimal e ≡ decimal f ++ 32 ∷ rest → ⊥
 lone e f rest small same =
     let yes = has_separator 32 (decimal f) rest in
     let never_one = decimal_without 32 e (omega arith) small in
     let h = ap (λ w. is_element w 32) same in cc
 
 -- a listing stands for its numbers alone
-numbers_one : (x y : List ℕ) → length x ≡ length y → All (λ e. e < 32) x → All (λ e. e < 32) y → numbers_text x ≡ numbers_text y → x ≡ y
+numbers_one : (x y : List ℕ) → length x ≡ length y → All (λ e. e < ELEMENTS) x → All (λ e. e < ELEMENTS) y → numbers_text x ≡ numbers_text y → x ≡ y
 numbers_one [] [] size p q same = refl
 numbers_one [] (f ∷ fs) size p q same = absurd (omega arith)
 numbers_one (e ∷ es) [] size p q same = absurd (omega arith)
@@ -89,7 +90,7 @@ numbers_one (e ∷ d ∷ es) (f ∷ g ∷ fs) size p q same =
     ap (λ k. k ∷ d ∷ es) head ∙ ap (λ w. f ∷ w) tail
 
 -- a line stands for one set
-set_one : (n r : ℕ) (x y : List ℕ) → n ≤ 32 → IsSetOf n r x → IsSetOf n r y → set_text x ≡ set_text y → x ≡ y
+set_one : (n r : ℕ) (x y : List ℕ) → n ≤ ELEMENTS → IsSetOf n r x → IsSetOf n r y → set_text x ≡ set_text y → x ≡ y
 set_one n r [] [] limit p q same = refl
 set_one n r [] (f ∷ fs) limit p q same = let a = p.size in let b = q.size in absurd (omega arith)
 set_one n r (e ∷ es) [] limit p q same = let a = p.size in let b = q.size in absurd (omega arith)
@@ -97,7 +98,7 @@ set_one n r (e ∷ es) (f ∷ fs) limit p q same =
     numbers_one (e ∷ es) (f ∷ fs) (p.size ∙ sym q.size) (λ k d lt. let h = p.set.elements k d lt in omega arith) (λ k d lt. let h = q.set.elements k d lt in omega arith) same
 
 -- the lines of sets
-sets_sharp : (n r k : ℕ) (sets : List (List ℕ)) (last : Option (List ℕ)) → n ≤ 32 → IsSharp (from_sets n r k sets last)
+sets_sharp : (n r k : ℕ) (sets : List (List ℕ)) (last : Option (List ℕ)) → n ≤ ELEMENTS → IsSharp (from_sets n r k sets last)
 unfolding set_lines
 sets_sharp n r zero sets last limit = (fixed_sharp (codes "end"), λ line a spelled fits. tt)
 sets_sharp n r (suc k) sets last limit = (

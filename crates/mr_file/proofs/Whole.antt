@@ -1,6 +1,6 @@
 -- The text of a whole file.
 use Rattle.std.proofs.Common.{◌≡◌, ℕ, zero, suc, ◌+◌, ◌≤◌, List, [], ◌∷◌, ◌++◌, length, map, refl, sym, ap, subst, ◌∙◌, inl, inr, arith, Option, Some, None, append_assoc, append-nil, codes}
-use Rattle.std.specs.Prelude.{◌<◌, ◌^◌, All, IfSome, decimal}
+use Rattle.std.specs.Prelude.{◌<◌, All, IfSome, decimal}
 use Rattle.std.specs.List.{AllByRecursion}
 use Rattle.std.specs.List.Sorted.{IsStrictlySortedBy}
 use Rattle.std.proofs.lemmas.Bool.{cases_lt}
@@ -9,6 +9,7 @@ use Rattle.mr_set.specs.Matroid.{Presentation, IsPresentation}
 use Rattle.mr_set.specs.Subsets.{IsSetOf, IsBefore, choose, list_cmp}
 use Rattle.mr_set.specs.declared.TheConstants.{ELEMENTS, SETS}
 use Rattle.mr_matroid.specs.Exchange.{IsWithinLimits}
+use Rattle.mr_text.specs.declared.TheConstants.{NUMBERS}
 use Rattle.mr_text.specs.Text.{text_of_lines, set_text, numbers_text, Lacks}
 use Rattle.mr_text.proofs.Formats.{lacks-append}
 use Rattle.mr_text.proofs.Decimals.{decimal_without}
@@ -137,7 +138,7 @@ file_read number bytes m rest next (u, r1, l1, (n, r2, l2, (r, r3, l3, (k, r4, l
     })
 
 -- and back: the text of a file stands for it
-keyed_line : (key : List ℕ) (v : ℕ) (exceeds : ℕ → Measure → Type 0) (tail : List ℕ) → Lacks 10 key → v < 10 ^ 9 → ((m : Measure) → ¬ (exceeds v m)) → IsLineOf (keyed key exceeds) ((key ++ decimal v) ++ 10 ∷ tail) v tail
+keyed_line : (key : List ℕ) (v : ℕ) (exceeds : ℕ → Measure → Type 0) (tail : List ℕ) → Lacks 10 key → v < NUMBERS → ((m : Measure) → ¬ (exceeds v m)) → IsLineOf (keyed key exceeds) ((key ++ decimal v) ++ 10 ∷ tail) v tail
 keyed_line key v exceeds tail whole small fits = record {
   line = key ++ decimal v;
   begins = record { text = refl; whole = lacks-append 10 key (decimal v) whole (decimal_without 10 v (omega arith) small) };
@@ -150,13 +151,13 @@ fixed_line : (text tail : List ℕ) → Lacks 10 text → IsLineOf (fixed {M = M
 fixed_line text tail whole = record { line = text; begins = record { text = refl; whole = whole }; spelled = refl; fits = λ m h. h }
 
 -- numbers hold no newline
-numbers_lack : (x : List ℕ) → All (λ e. e < 32) x → Lacks 10 (numbers_text x)
+numbers_lack : (x : List ℕ) → All (λ e. e < ELEMENTS) x → Lacks 10 (numbers_text x)
 numbers_lack [] small = refl
 numbers_lack (e ∷ []) small = decimal_without 10 e (omega arith) (let h = small 0 e (omega arith) in omega arith)
 numbers_lack (e ∷ f ∷ es) small = lacks-append 10 (decimal e) (32 ∷ numbers_text (f ∷ es)) (decimal_without 10 e (omega arith) (let h = small 0 e (omega arith) in omega arith)) (numbers_lack (f ∷ es) (λ k d lt. small (suc k) d (omega arith)))
 
 -- nor does a set
-set_lacks : (n r : ℕ) (x : List ℕ) → n ≤ 32 → IsSetOf n r x → Lacks 10 (set_text x)
+set_lacks : (n r : ℕ) (x : List ℕ) → n ≤ ELEMENTS → IsSetOf n r x → Lacks 10 (set_text x)
 set_lacks n r [] limit is = refl
 set_lacks n r (e ∷ es) limit is = numbers_lack (e ∷ es) (λ k d lt. let h = is.set.elements k d lt in omega arith)
 
@@ -167,7 +168,7 @@ first_after None x sets sorted = (tt, sorted)
 first_after (Some y) x sets sorted = (sorted.0.0, sorted.1)
 
 -- the lines of sets stand for them
-sets_stand : (n r : ℕ) (done_sets more : List (List ℕ)) (last : Option (List ℕ)) (number : ℕ) (rest : List ℕ) → n ≤ 32 → All (IsSetOf n r) more → SortedAfter last more
+sets_stand : (n r : ℕ) (done_sets more : List (List ℕ)) (last : Option (List ℕ)) (number : ℕ) (rest : List ℕ) → n ≤ ELEMENTS → All (IsSetOf n r) more → SortedAfter last more
     → StandsFor (from_sets n r (length more) done_sets last) number (text_of_lines (map set_text more ++ codes "end" ∷ []) ++ rest) (record { elements = n; rank = r; nonbases = done_sets ++ more }) rest (number + length more + 1)
 unfolding set_lines
 sets_stand n r done_sets [] last number rest limit all sorted =

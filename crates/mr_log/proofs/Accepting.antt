@@ -3,6 +3,7 @@ use Rattle.std.proofs.Common.{◌≡◌, ℕ, suc, ◌+◌, ◌≤◌, List, [],
 use Rattle.std.specs.Prelude.{decimal, MatchResult, IfOk, IfErr}
 use Rattle.std.proofs.lemmas.List.{length-append}
 use Rattle.mr_field.specs.Order.{IsOrder}
+use Rattle.mr_set.specs.declared.TheConstants.{ELEMENTS}
 use Rattle.mr_set.specs.Matroid.{Presentation, IsBasis, IsMatroid, FailsExchange}
 use Rattle.mr_matroid.specs.Exchange.{HasNoBasis}
 use Rattle.mr_text.specs.Text.{Lacks}
@@ -45,7 +46,7 @@ count_stands count tail le = record {
 }
 
 -- the line of a step
-step_stands : (m : Presentation) (q number : ℕ) (row : Row) (tail : List ℕ) → m.elements ≤ 32 → 2 ≤ q → q ≤ 9 → IsLogStep m q number row → IsLineOf (step_table m q number) (step_text q row ++ 10 ∷ tail) row tail
+step_stands : (m : Presentation) (q number : ℕ) (row : Row) (tail : List ℕ) → m.elements ≤ ELEMENTS → 2 ≤ q → q ≤ 9 → IsLogStep m q number row → IsLineOf (step_table m q number) (step_text q row ++ 10 ∷ tail) row tail
 step_stands m q number row tail limit low nine is = record {
   line = step_text q row;
   begins = record { text = refl; whole = subst (Lacks 10) (step_join q row low (let size = is.count in omega arith)) (lacks-join (step_words q row) (step_lacks m 10 q number row newline_apart limit nine is)) };
@@ -54,7 +55,7 @@ step_stands m q number row tail limit low nine is = record {
 }
 
 -- the line of the end
-end_stands : (m : Presentation) (last : Cite) (tail : List ℕ) → m.elements ≤ 32 → IsLogCite m last → IsLineOf (end_table m) ((codes "end " ++ cite_text last) ++ 10 ∷ tail) last tail
+end_stands : (m : Presentation) (last : Cite) (tail : List ℕ) → m.elements ≤ ELEMENTS → IsLogCite m last → IsLineOf (end_table m) ((codes "end " ++ cite_text last) ++ 10 ∷ tail) last tail
 end_stands m last tail limit is = record {
   line = codes "end " ++ cite_text last;
   begins = record { text = refl; whole = subst (Lacks 10) (end_join last) (lacks-join (codes "end" ∷ cite_words last) (refl, cite_lacks m 10 last newline_apart limit is)) };
@@ -63,7 +64,7 @@ end_stands m last tail limit is = record {
 }
 
 -- the lines of steps and the last line stand for them
-steps_stand : (q : ℕ) (m : Presentation) (old more : List Row) (last : Cite) (number : ℕ) (rest : List ℕ) → m.elements ≤ 32 → 2 ≤ q → q ≤ 9 → AreSteps m q (length old) more → IsLogCite m last
+steps_stand : (q : ℕ) (m : Presentation) (old more : List Row) (last : Cite) (number : ℕ) (rest : List ℕ) → m.elements ≤ ELEMENTS → 2 ≤ q → q ≤ 9 → AreSteps m q (length old) more → IsLogCite m last
     → StandsFor (from_steps q m (length more) old) number (steps_text q more ++ ((codes "end " ++ cite_text last) ++ 10 ∷ rest)) (record { matroid = m; q = q; steps = old ++ more; last = last }) rest (number + length more + 1)
 unfolding step_lines
 steps_stand q m old [] last number rest limit low nine each is = (

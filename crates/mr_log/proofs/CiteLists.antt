@@ -4,6 +4,7 @@ use Rattle.std.specs.Prelude.{All, decimal, flat_map}
 use Rattle.std.specs.List.{AllByRecursion}
 use Rattle.std.proofs.lemmas.Bool.{cases_lt}
 use Rattle.std.proofs.lemmas.List.{ext_get_or, length-take-le}
+use Rattle.mr_set.specs.declared.TheConstants.{ELEMENTS}
 use Rattle.mr_set.specs.Subsets.{IsSetOf}
 use Rattle.mr_set.specs.Matroid.{Presentation}
 use Rattle.mr_set.proofs.Sorted.{all_head, all_tail}
@@ -16,21 +17,21 @@ use Rattle.mr_log.specs.Private.Words.{IsCites, set_words, cite_words, cites_wor
 use Rattle.mr_log.proofs.Cites.{NoCite, test_or_slot}
 
 -- words that begin with the elements of a set
-elements_one : (x y : List ℕ) (r s : List (List ℕ)) → length x ≡ length y → All (λ e. e < 32) x → All (λ e. e < 32) y → map decimal x ++ r ≡ map decimal y ++ s → (x ≡ y) × (r ≡ s)
+elements_one : (x y : List ℕ) (r s : List (List ℕ)) → length x ≡ length y → All (λ e. e < ELEMENTS) x → All (λ e. e < ELEMENTS) y → map decimal x ++ r ≡ map decimal y ++ s → (x ≡ y) × (r ≡ s)
 elements_one [] [] r s size p q same = (refl, same)
 elements_one [] (f ∷ fs) r s size p q same = absurd (omega arith)
 elements_one (e ∷ es) [] r s size p q same = absurd (omega arith)
 elements_one (e ∷ es) (f ∷ fs) r s size p q same =
-    let low = all_head (λ k. k < 32) e es p in
-    let low2 = all_head (λ k. k < 32) f fs q in
+    let low = all_head (λ k. k < ELEMENTS) e es p in
+    let low2 = all_head (λ k. k < ELEMENTS) f fs q in
     let heads : decimal e ≡ decimal f = cc in
     let tails : map decimal es ++ r ≡ map decimal fs ++ s = cc in
     let head : e ≡ f = decimal_one e f (omega arith) (omega arith) heads in
-    let rest = elements_one es fs r s (omega arith) (all_tail (λ k. k < 32) e es p) (all_tail (λ k. k < 32) f fs q) tails in
+    let rest = elements_one es fs r s (omega arith) (all_tail (λ k. k < ELEMENTS) e es p) (all_tail (λ k. k < ELEMENTS) f fs q) tails in
     (ap (λ k. k ∷ es) head ∙ ap (λ z. f ∷ z) rest.0, rest.1)
 
 -- words that begin with a set of one size
-set_one : (n k : ℕ) (x y : List ℕ) (r s : List (List ℕ)) → n ≤ 32 → IsSetOf n k x → IsSetOf n k y → set_words x ++ r ≡ set_words y ++ s → (x ≡ y) × (r ≡ s)
+set_one : (n k : ℕ) (x y : List ℕ) (r s : List (List ℕ)) → n ≤ ELEMENTS → IsSetOf n k x → IsSetOf n k y → set_words x ++ r ≡ set_words y ++ s → (x ≡ y) × (r ≡ s)
 set_one n k [] [] r s limit p q same = (refl, let h : r ≡ s = cc in h)
 set_one n k [] (f ∷ fs) r s limit p q same = let a = p.size in let b = q.size in absurd (omega arith)
 set_one n k (e ∷ es) [] r s limit p q same = let a = p.size in let b = q.size in absurd (omega arith)
@@ -38,7 +39,7 @@ set_one n k (e ∷ es) (f ∷ fs) r s limit p q same =
     elements_one (e ∷ es) (f ∷ fs) r s (p.size ∙ sym q.size) (λ j d lt. let h = p.set.elements j d lt in omega arith) (λ j d lt. let h = q.set.elements j d lt in omega arith) same
 
 -- words that begin with a cite
-pub cite_one : (m : Presentation) (c d : Cite) (r s : List (List ℕ)) → m.elements ≤ 32 → IsLogCite m c → IsLogCite m d → cite_words c ++ r ≡ cite_words d ++ s → (c ≡ d) × (r ≡ s)
+pub cite_one : (m : Presentation) (c d : Cite) (r s : List (List ℕ)) → m.elements ≤ ELEMENTS → IsLogCite m c → IsLogCite m d → cite_words c ++ r ≡ cite_words d ++ s → (c ≡ d) × (r ≡ s)
 cite_one m Nothing d r s limit p q same = absurd p
 cite_one m (Test x) Nothing r s limit p q same = absurd q
 cite_one m (Test x) (Test y) r s limit p q same =
@@ -59,7 +60,7 @@ abbrev pub list_words : List Cite → List (List ℕ)
 list_words list = flat_map cite_words list
 
 -- after fewer cites there is another
-pub next_cite : (m : Presentation) (xs ys : List Cite) (r s : List (List ℕ)) → m.elements ≤ 32 → AreCites m xs → AreCites m ys → length xs < length ys → list_words xs ++ r ≡ list_words ys ++ s → NoCite m r → ⊥
+pub next_cite : (m : Presentation) (xs ys : List Cite) (r s : List (List ℕ)) → m.elements ≤ ELEMENTS → AreCites m xs → AreCites m ys → length xs < length ys → list_words xs ++ r ≡ list_words ys ++ s → NoCite m r → ⊥
 next_cite m xs [] r s limit p q less same never = omega arith
 next_cite m [] (y ∷ ys) r s limit p q less same never = never y (list_words ys ++ s) q.0 (same ∙ append_assoc (cite_words y) (list_words ys) s)
 next_cite m (x ∷ xs) (y ∷ ys) r s limit p q less same never =
@@ -67,7 +68,7 @@ next_cite m (x ∷ xs) (y ∷ ys) r s limit p q less same never =
     next_cite m xs ys r s limit p.1 q.1 (omega arith) parts.1 never
 
 -- words that begin with as many cites
-pub cites_one : (m : Presentation) (xs ys : List Cite) (r s : List (List ℕ)) → m.elements ≤ 32 → AreCites m xs → AreCites m ys → length xs ≡ length ys → list_words xs ++ r ≡ list_words ys ++ s → (xs ≡ ys) × (r ≡ s)
+pub cites_one : (m : Presentation) (xs ys : List Cite) (r s : List (List ℕ)) → m.elements ≤ ELEMENTS → AreCites m xs → AreCites m ys → length xs ≡ length ys → list_words xs ++ r ≡ list_words ys ++ s → (xs ≡ ys) × (r ≡ s)
 cites_one m [] [] r s limit p q size same = (refl, same)
 cites_one m [] (y ∷ ys) r s limit p q size same = absurd (omega arith)
 cites_one m (x ∷ xs) [] r s limit p q size same = absurd (omega arith)
@@ -102,7 +103,7 @@ pub front_count : (m : Presentation) (q : ℕ) (list : List Cite) → q ≤ 9 �
 front_count m q list nine is = length-take-le (q - 1) list (let size = is.count in omega arith)
 
 -- a cite that is missing
-pub missing : (m : Presentation) (q k : ℕ) (list : List Cite) (old mid : List (List ℕ)) → m.elements ≤ 32 → q ≤ 9 → k < q - 1 → FirstCites m k list old mid → NoCite m mid → (all : List Cite) (rest : List (List ℕ)) → IsCites m q all → old ≢ cites_words q all ++ rest
+pub missing : (m : Presentation) (q k : ℕ) (list : List Cite) (old mid : List (List ℕ)) → m.elements ≤ ELEMENTS → q ≤ 9 → k < q - 1 → FirstCites m k list old mid → NoCite m mid → (all : List Cite) (rest : List (List ℕ)) → IsCites m q all → old ≢ cites_words q all ++ rest
 missing m q k list old mid limit nine less is never all rest cites words =
     let size = is.count in
     let count = front_count m q all nine cites in
@@ -110,7 +111,7 @@ missing m q k list old mid limit nine less is never all rest cites words =
     next_cite m (take k list) (front q all) mid rest limit (taken m k list (omega arith) is.some) (front_cites m q all nine cites) (omega arith) (sym is.words ∙ words) never
 
 -- words that begin with the cites of a step
-pub step_cites_one : (m : Presentation) (q : ℕ) (a b : List Cite) (r s : List (List ℕ)) → m.elements ≤ 32 → q ≤ 9 → IsCites m q a → IsCites m q b → cites_words q a ++ r ≡ cites_words q b ++ s → (a ≡ b) × (r ≡ s)
+pub step_cites_one : (m : Presentation) (q : ℕ) (a b : List Cite) (r s : List (List ℕ)) → m.elements ≤ ELEMENTS → q ≤ 9 → IsCites m q a → IsCites m q b → cites_words q a ++ r ≡ cites_words q b ++ s → (a ≡ b) × (r ≡ s)
 step_cites_one m q a b r s limit nine p t same =
     let parts = cites_one m (front q a) (front q b) r s limit (front_cites m q a nine p) (front_cites m q b nine t) (front_count m q a nine p ∙ sym (front_count m q b nine t)) same in (
       ext_get_or Nothing a b (p.count ∙ sym t.count) (λ j lt. elim (cases_lt j (q - 1)) as (λ _. get_or a j Nothing ≡ get_or b j Nothing) [

@@ -1,19 +1,21 @@
 -- The words of sets and cites.
 use Rattle.std.proofs.Common.{◌≡◌, ◌≢◌, ℕ, ◌+◌, ◌-◌, ◌<◌, ◌≤◌, List, [], ◌∷◌, ◌++◌, get_or, refl, sym, ap, subst, ◌∙◌, Option, Some, None, arith, codes, map}
-use Rattle.std.specs.Prelude.{◌^◌, decimal, option_map}
+use Rattle.std.specs.Prelude.{decimal, option_map}
+use Rattle.mr_set.specs.declared.TheConstants.{ELEMENTS}
 use Rattle.mr_set.specs.Elements.{with_element}
 use Rattle.mr_set.specs.Subsets.{IsSetOf}
 use Rattle.mr_set.specs.Matroid.{Presentation}
 use Rattle.mr_set.proofs.Sorted.{all_head, all_tail, all_cons, all_none, below_all, all_above, sorted_cons, sorted_parts, sorted_none, with_front}
 use Rattle.mr_nogood.specs.declared.row.Cite.{Cite}
 use Rattle.mr_nogood.specs.declared.row.Cite.TheVariants.{Nothing, Test, Slot}
+use Rattle.mr_text.specs.declared.TheConstants.{NUMBERS}
 use Rattle.mr_text.proofs.Decimals.{decimal_one}
 use Rattle.mr_log.specs.Lines.{IsLogCite}
 use Rattle.mr_log.specs.Private.Words.{Reads, IsSetFrom, set_words, cite_words}
 
 -- no words of a number stand first
 abbrev pub NoNumber : List (List ℕ) → Type 0
-NoNumber old = (v : ℕ) (rest : List (List ℕ)) → v < 10 ^ 9 → old ≢ (decimal v ∷ []) ++ rest
+NoNumber old = (v : ℕ) (rest : List (List ℕ)) → v < NUMBERS → old ≢ (decimal v ∷ []) ++ rest
 
 -- no words of such a set stand first
 abbrev pub NoSetFrom : ℕ → ℕ → ℕ → List (List ℕ) → Type 0
@@ -63,28 +65,28 @@ element_before low n r e others some le lt is = record {
 }
 
 -- no number stands first
-pub no_first : (low n r : ℕ) (old : List (List ℕ)) → n ≤ 32 → 0 < r → NoNumber old → NoSetFrom low n r old
+pub no_first : (low n r : ℕ) (old : List (List ℕ)) → n ≤ ELEMENTS → 0 < r → NoNumber old → NoSetFrom low n r old
 no_first low n r old limit some never x rest is words =
     let f = first_element low n r x some is in
     let lt = f.within in
     never f.first (map decimal f.others ++ rest) (omega arith) (words ∙ ap (λ z. map decimal z ++ rest) f.parts)
 
 -- the number that stands first is the least element
-pub first_number : (low n r e : ℕ) (old mid : List (List ℕ)) (x : List ℕ) (rest : List (List ℕ)) → n ≤ 32 → e < 10 ^ 9 → old ≡ (decimal e ∷ []) ++ mid → (f : FirstElement low n r x) → old ≡ map decimal x ++ rest → (f.first ≡ e) × (mid ≡ map decimal f.others ++ rest)
+pub first_number : (low n r e : ℕ) (old mid : List (List ℕ)) (x : List ℕ) (rest : List (List ℕ)) → n ≤ ELEMENTS → e < NUMBERS → old ≡ (decimal e ∷ []) ++ mid → (f : FirstElement low n r x) → old ≡ map decimal x ++ rest → (f.first ≡ e) × (mid ≡ map decimal f.others ++ rest)
 first_number low n r e old mid x rest limit small is f words =
     let lt = f.within in
     let both : decimal f.first ∷ (map decimal f.others ++ rest) ≡ decimal e ∷ mid = ap (λ z. map decimal z ++ rest) (sym f.parts) ∙ sym words ∙ is in
     (decimal_one f.first e (omega arith) small (let h : decimal f.first ≡ decimal e = cc in h), (let h : mid ≡ map decimal f.others ++ rest = cc in h))
 
 -- a first number that is too small or too large
-pub number_out : (low n r e : ℕ) (old mid : List (List ℕ)) → n ≤ 32 → 0 < r → e < 10 ^ 9 → old ≡ (decimal e ∷ []) ++ mid → ((low ≤ e) × (e < n) → ⊥) → NoSetFrom low n r old
+pub number_out : (low n r e : ℕ) (old mid : List (List ℕ)) → n ≤ ELEMENTS → 0 < r → e < NUMBERS → old ≡ (decimal e ∷ []) ++ mid → ((low ≤ e) × (e < n) → ⊥) → NoSetFrom low n r old
 number_out low n r e old mid limit some small is out x rest set words =
     let f = first_element low n r x some set in
     let same = first_number low n r e old mid x rest limit small is f words in
     out (subst (λ k. low ≤ k) same.0 f.low_enough, subst (λ k. k < n) same.0 f.within)
 
 -- a first number that no others follow
-pub no_more : (low n r e : ℕ) (old mid : List (List ℕ)) → n ≤ 32 → 0 < r → e < 10 ^ 9 → old ≡ (decimal e ∷ []) ++ mid → NoSetFrom (e + 1) n (r - 1) mid → NoSetFrom low n r old
+pub no_more : (low n r e : ℕ) (old mid : List (List ℕ)) → n ≤ ELEMENTS → 0 < r → e < NUMBERS → old ≡ (decimal e ∷ []) ++ mid → NoSetFrom (e + 1) n (r - 1) mid → NoSetFrom low n r old
 no_more low n r e old mid limit some small is never x rest set words =
     let f = first_element low n r x some set in
     let same = first_number low n r e old mid x rest limit small is f words in

@@ -1,6 +1,6 @@
 -- The words of a clause, pair by pair.
 use Rattle.std.proofs.Common.{◌≡◌, ◌≢◌, ℕ, ◌+◌, ◌<◌, ◌≤◌, List, [], ◌∷◌, ◌++◌, length, set, get_or, refl, sym, ap, subst, ◌∙◌, inl, inr, Option, Some, None, Bool, true, false, eqb, arith, length-set, get_or-set_same, get_or-set_other, codes}
-use Rattle.std.specs.Prelude.{◌^◌, ◌↔◌, All, IsTrue, MatchOption}
+use Rattle.std.specs.Prelude.{◌↔◌, All, IsTrue, MatchOption}
 use Rattle.std.specs.Cmp.Lexicographic.{pointwise, same_text, other_text}
 use Rattle.std.proofs.lemmas.Bool.{cases_eq, cases_lt}
 use Rattle.std.proofs.lemmas.List.{get_or-replicate, get_or_past, set-set, set-get_or}
@@ -10,6 +10,7 @@ use Rattle.mr_assign.specs.declared.TheConstants.{POSITIONS, VALUES}
 use Rattle.mr_log.specs.Lines.{pair_text, pair_texts}
 use Rattle.mr_log.specs.Private.Words.{Reads, IsClauseFrom, or_dash, pair_words, clause_words}
 use Rattle.mr_log.proofs.Pairs.{pair_one, no_pair, pair_texts-set, Least, vacant, valued, least}
+use Rattle.mr_text.specs.declared.TheConstants.{NUMBERS}
 
 -- a text that was compared with another and is the same
 pub agrees : (w s t : List ℕ) (r : Bool) → r ≡ pointwise eqb w s → r ≡ true → s ≡ t → w ≡ t
@@ -113,7 +114,7 @@ abbrev pub NoPairs : ℕ → ℕ → List (List ℕ) → Type 0
 NoPairs q low old = (a : List ℕ) (rest : List (List ℕ)) → IsClauseFrom q low a → old ≢ pair_words a ++ rest
 
 -- a first word that is no pair
-pub not_a_pair : (q low : ℕ) (word : List ℕ) (old : List (List ℕ)) → q ≤ 9 → word ≢ codes "by" → ((p v : ℕ) → p < 10 ^ 9 → v < 10 ^ 9 → word ≢ pair_text p v) → NoPairs q low (word ∷ old)
+pub not_a_pair : (q low : ℕ) (word : List ℕ) (old : List (List ℕ)) → q ≤ 9 → word ≢ codes "by" → ((p v : ℕ) → p < NUMBERS → v < NUMBERS → word ≢ pair_text p v) → NoPairs q low (word ∷ old)
 not_a_pair q low word old nine other never a rest is words =
     let f = first_is q low word old a rest is other words in
     let place = f.place in
@@ -121,21 +122,21 @@ not_a_pair q low word old nine other never a rest is words =
     never f.position f.value (omega arith) (omega arith) f.spelled
 
 -- the first word is the pair that was read
-pub pair_is : (q low p v : ℕ) (word : List ℕ) (old : List (List ℕ)) (a : List ℕ) (rest : List (List ℕ)) → q ≤ 9 → p < 10 ^ 9 → v < 10 ^ 9 → word ≡ pair_text p v → (f : FirstIs q low word old a rest) → (f.position ≡ p) × (f.value ≡ v)
+pub pair_is : (q low p v : ℕ) (word : List ℕ) (old : List (List ℕ)) (a : List ℕ) (rest : List (List ℕ)) → q ≤ 9 → p < NUMBERS → v < NUMBERS → word ≡ pair_text p v → (f : FirstIs q low word old a rest) → (f.position ≡ p) × (f.value ≡ v)
 pair_is q low p v word old a rest nine sp sv is f =
     let place = f.place in
     let small = f.small in
     pair_one f.position f.value p v (omega arith) (omega arith) sp sv (sym f.spelled ∙ is)
 
 -- a pair that may not stand here
-pub pair_out : (q low p v : ℕ) (word : List ℕ) (old : List (List ℕ)) → q ≤ 9 → word ≢ codes "by" → p < 10 ^ 9 → v < 10 ^ 9 → word ≡ pair_text p v → ((low ≤ p) × (p < POSITIONS) × (0 < v) × (v < q) → ⊥) → NoPairs q low (word ∷ old)
+pub pair_out : (q low p v : ℕ) (word : List ℕ) (old : List (List ℕ)) → q ≤ 9 → word ≢ codes "by" → p < NUMBERS → v < NUMBERS → word ≡ pair_text p v → ((low ≤ p) × (p < POSITIONS) × (0 < v) × (v < q) → ⊥) → NoPairs q low (word ∷ old)
 pair_out q low p v word old nine other sp sv spelled out a rest is words =
     let f = first_is q low word old a rest is other words in
     let same = pair_is q low p v word old a rest nine sp sv spelled f in
     out (subst (λ k. low ≤ k) same.0 f.low_enough, subst (λ k. k < POSITIONS) same.0 f.place, subst (λ k. 0 < k) same.1 f.nonzero, subst (λ k. k < q) same.1 f.small)
 
 -- a pair that no others follow
-pub no_others : (q low p v : ℕ) (word : List ℕ) (old : List (List ℕ)) → q ≤ 9 → word ≢ codes "by" → p < 10 ^ 9 → v < 10 ^ 9 → word ≡ pair_text p v → NoPairs q (p + 1) old → NoPairs q low (word ∷ old)
+pub no_others : (q low p v : ℕ) (word : List ℕ) (old : List (List ℕ)) → q ≤ 9 → word ≢ codes "by" → p < NUMBERS → v < NUMBERS → word ≡ pair_text p v → NoPairs q (p + 1) old → NoPairs q low (word ∷ old)
 no_others q low p v word old nine other sp sv spelled never a rest is words =
     let f = first_is q low word old a rest is other words in
     let same = pair_is q low p v word old a rest nine sp sv spelled f in

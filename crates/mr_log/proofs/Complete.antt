@@ -1,7 +1,6 @@
 -- Each text is a log or has a fault.
-use Rattle.std.proofs.Common.{◌≡◌, ℕ, List, refl}
+use Rattle.std.proofs.Common.{ℕ, List, refl}
 use Rattle.mr_field.specs.Order.{IsOrder}
-use Rattle.mr_set.specs.Matroid.{IsMatroid, IsBasis}
 use Rattle.mr_text.specs.Format.{FirstFault, grammar, size, IsTextOf, IsFirstFaultOf}
 use Rattle.mr_text.proofs.Complete.{stands_or_is_at_fault}
 use Rattle.mr_file.specs.declared.fault.Measure.{Measure}

@@ -8,7 +8,7 @@ use Rattle.mr_set.specs.Matroid.{Presentation, IsPresentation}
 use Rattle.mr_matroid.specs.Exchange.{IsWithinLimits}
 use Rattle.mr_text.specs.Format.{StandsFor}
 use Rattle.mr_text.proofs.Listings.{lines-append}
-use Rattle.mr_file.specs.File.{file, file_lines, file_text}
+use Rattle.mr_file.specs.File.{file_lines, file_text}
 use Rattle.mr_file.specs.declared.fault.Measure.TheVariants.{Sets}
 use Rattle.mr_file.proofs.Whole.{file_read, at_most}
 use Rattle.mr_file.proofs.AfterFile.{FileThen, file_then}

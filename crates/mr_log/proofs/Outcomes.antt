@@ -1,14 +1,13 @@
 -- From one line of a log to a later one, and what refusals say of them.
-use Rattle.std.proofs.Common.{◌≡◌, ℕ, zero, suc, ◌+◌, ◌<◌, ◌≤◌, List, [], ◌∷◌, ◌++◌, length, refl, sym, subst, ◌∙◌, inl, inr, arith, Option, Some, None, codes}
-use Rattle.std.specs.Prelude.{◌^◌, decimal}
+use Rattle.std.proofs.Common.{◌≡◌, ℕ, zero, suc, ◌+◌, ◌<◌, ◌≤◌, List, [], ◌∷◌, ◌++◌, length, refl, sym, subst, ◌∙◌, inr, arith, codes}
+use Rattle.std.specs.Prelude.{decimal}
 use Rattle.std.proofs.lemmas.List.{append_cancel_left}
 use Rattle.mr_set.specs.Matroid.{Presentation}
-use Rattle.mr_text.specs.Format.{FirstFault, grammar, size, Table, Format, done, line_of, IsLineOf, IsLineFault, IsFirstFault, StandsFor}
+use Rattle.mr_text.specs.declared.TheConstants.{NUMBERS}
+use Rattle.mr_text.specs.Format.{FirstFault, grammar, size, Format, done, IsLineOf, IsLineFault, IsFirstFault, StandsFor}
 use Rattle.mr_text.specs.Tables.{never, fixed, keyed}
 use Rattle.mr_text.proofs.Leads.{Leads, leads_on, leads_fault}
-use Rattle.mr_file.specs.File.{set_table, set_lines, file}
-use Rattle.mr_file.specs.Reading.{Names, whole_file}
-use Rattle.mr_file.specs.Private.Reading.{end_line}
+use Rattle.mr_file.specs.Reading.{Names}
 use Rattle.mr_file.specs.declared.fault.Measure.{Measure}
 use Rattle.mr_file.specs.declared.fault.Measure.TheVariants.{Elements, Rank, Sets, Nonbases}
 use Rattle.mr_file.specs.declared.fault.FileFault.{FileFault}
@@ -52,7 +51,7 @@ named P Q f line e is more h = subst (NamesBad Q) (sym is) (by_fault f h)
     by_fault file_fault.Memory p = tt
 
 -- a line that names another field
-pub other_field : (number q v : ℕ) (bytes rest : List ℕ) → q < 10 ^ 9 → IsLineOf (keyed {M = Measure} (codes "field ") never) bytes v rest → (v ≡ q → ⊥) → IsLineFault (fixed {M = Measure} (field_text q)) number bytes (grammar number)
+pub other_field : (number q v : ℕ) (bytes rest : List ℕ) → q < NUMBERS → IsLineOf (keyed {M = Measure} (codes "field ") never) bytes v rest → (v ≡ q → ⊥) → IsLineFault (fixed {M = Measure} (field_text q)) number bytes (grammar number)
 other_field number q v bytes rest small line other = (
   refl,
   inr (record {

@@ -1,11 +1,12 @@
 -- Pairs of a position and its value.
 use Rattle.std.proofs.Common.{◌≡◌, ◌≢◌, ℕ, zero, suc, ◌+◌, ◌≤◌, List, [], ◌∷◌, ◌++◌, length, set, get_or, refl, sym, ap, subst, ◌∙◌, false, cond, eqb, ◌||◌, arith, append_assoc}
-use Rattle.std.specs.Prelude.{◌<◌, ◌^◌, decimal, nat_eq}
+use Rattle.std.specs.Prelude.{◌<◌, decimal, nat_eq}
 use Rattle.std.specs.Str.Parse.{AllDigits}
 use Rattle.std.proofs.lemmas.Bool.Decides.{nat_tests}
 use Rattle.std.proofs.lemmas.Fmt.{digits_decimal}
 use Rattle.std.proofs.lemmas.Str.Parse.{digit_from_value}
 use Rattle.mr_set.specs.Elements.{is_element}
+use Rattle.mr_text.specs.declared.TheConstants.{NUMBERS}
 use Rattle.mr_text.specs.Text.{Lacks}
 use Rattle.mr_text.proofs.Decimals.{own, decimal_without, decimal_one}
 use Rattle.mr_text.proofs.Formats.{same_parts, has_separator, lacks-append}
@@ -23,7 +24,7 @@ digits_without (d ∷ ds) all =
     different n lt = grind (arith, nat_tests)
 
 -- a number has no colon
-pub no_colon : (v : ℕ) → v < 10 ^ 9 → Lacks 58 (decimal v)
+pub no_colon : (v : ℕ) → v < NUMBERS → Lacks 58 (decimal v)
 no_colon v small = digits_without (decimal v) (digits_decimal own v (omega arith))
 
 -- a pair from its front
@@ -31,13 +32,13 @@ pub pair_text-parts : (p v : ℕ) → pair_text p v ≡ decimal p ++ 58 ∷ deci
 pair_text-parts p v = append_assoc (decimal p) (58 ∷ []) (decimal v)
 
 -- a pair has one position and one value
-pub pair_one : (p v k w : ℕ) → p < 10 ^ 9 → v < 10 ^ 9 → k < 10 ^ 9 → w < 10 ^ 9 → pair_text p v ≡ pair_text k w → (p ≡ k) × (v ≡ w)
+pub pair_one : (p v k w : ℕ) → p < NUMBERS → v < NUMBERS → k < NUMBERS → w < NUMBERS → pair_text p v ≡ pair_text k w → (p ≡ k) × (v ≡ w)
 pair_one p v k w sp sv sk sw same =
     let parts = same_parts 58 (decimal p) (decimal k) (decimal v) (decimal w) (no_colon p sp) (no_colon k sk) (sym (pair_text-parts p v) ∙ same ∙ pair_text-parts k w) in
     (decimal_one p k sp sk parts.0, decimal_one v w sv sw parts.1)
 
 -- a pair holds no byte below the digits
-pub pair_lacks : (c p v : ℕ) → c < 48 → p < 10 ^ 9 → v < 10 ^ 9 → Lacks c (pair_text p v)
+pub pair_lacks : (c p v : ℕ) → c < 48 → p < NUMBERS → v < NUMBERS → Lacks c (pair_text p v)
 pair_lacks c p v low sp sv =
     let colon : nat_eq c 58 ≡ false = different c (omega arith) in
     subst (Lacks c) (sym (pair_text-parts p v)) (lacks-append c (decimal p) (58 ∷ decimal v) (decimal_without c p low sp) (ap (λ b. b || is_element (decimal v) c) colon ∙ decimal_without c v low sv))
@@ -50,7 +51,7 @@ pub no_pair : (word : List ℕ) (p v : ℕ) → Lacks 58 word → word ≡ pair_
 no_pair word p v none is = let yes = has_separator 58 (decimal p) (decimal v) in let e = ap (λ w. is_element w 58) (is ∙ pair_text-parts p v) in cc
 
 -- the numbers round the colon
-pub colon_parts : (word left right : List ℕ) (p v : ℕ) → word ≡ left ++ 58 ∷ right → Lacks 58 left → p < 10 ^ 9 → word ≡ pair_text p v → (left ≡ decimal p) × (right ≡ decimal v)
+pub colon_parts : (word left right : List ℕ) (p v : ℕ) → word ≡ left ++ 58 ∷ right → Lacks 58 left → p < NUMBERS → word ≡ pair_text p v → (left ≡ decimal p) × (right ≡ decimal v)
 colon_parts word left right p v is none small spelled = same_parts 58 left (decimal p) right (decimal v) none (no_colon p small) (sym is ∙ spelled ∙ pair_text-parts p v)
 
 -- one with a value has one

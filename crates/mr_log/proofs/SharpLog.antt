@@ -1,11 +1,13 @@
 -- A line of a log spells one value.
 use Rattle.std.proofs.Common.{◌≡◌, ℕ, zero, suc, ◌-◌, ◌<◌, ◌≤◌, List, [], ◌∷◌, ◌++◌, length, take, get_or, refl, sym, subst, ◌∙◌, inl, inr, arith, append_assoc, codes, map}
-use Rattle.std.specs.Prelude.{◌^◌, decimal}
+use Rattle.std.specs.Prelude.{decimal}
 use Rattle.std.specs.List.{join_with_byte}
 use Rattle.std.proofs.lemmas.Bool.{cases_lt}
 use Rattle.std.proofs.lemmas.List.{append_cancel_left, ext_get_or, get_or_past}
+use Rattle.mr_set.specs.declared.TheConstants.{ELEMENTS}
 use Rattle.mr_set.specs.Matroid.{Presentation}
 use Rattle.mr_assign.specs.declared.TheConstants.{VALUES}
+use Rattle.mr_text.specs.declared.TheConstants.{NUMBERS}
 use Rattle.mr_text.specs.Tables.{keyed}
 use Rattle.mr_text.specs.Private.Sharp.{IsSharpTable, IsSharp}
 use Rattle.mr_text.proofs.Decimals.{decimal_without, decimal_one}
@@ -46,7 +48,7 @@ step_text-front q row = (_, front (decimal row.at) (clause_text row.clause) (joi
     front d clause cites = simp append_assoc
 
 -- a line spells one position
-position_of_text : (q : ℕ) (a b : Row) → a.at < 10 ^ 9 → b.at < 10 ^ 9 → step_text q a ≡ step_text q b → a.at ≡ b.at
+position_of_text : (q : ℕ) (a b : Row) → a.at < NUMBERS → b.at < NUMBERS → step_text q a ≡ step_text q b → a.at ≡ b.at
 position_of_text q a b p t same =
     let left = step_text-front q a in
     let right = step_text-front q b in
@@ -74,7 +76,7 @@ no_steps m q number row many is = subst (IsLogCite m) (past row.cites is.count) 
     past cites size = get_or_past cites 8 Nothing (omega arith)
 
 -- a line spells one step
-step_value : (m : Presentation) (q number : ℕ) (line : List ℕ) (a b : Row) → m.elements ≤ 32 → IsStepLine m q number line a → IsStepLine m q number line b → a ≡ b
+step_value : (m : Presentation) (q number : ℕ) (line : List ℕ) (a b : Row) → m.elements ≤ ELEMENTS → IsStepLine m q number line a → IsStepLine m q number line b → a ≡ b
 step_value m q number line a b limit p t = elim (cases_lt 1 q) [
   | inl some ↦ elim (cases_lt 9 q) [
     | inl many ↦ absurd (no_steps m q number a many p.step)
@@ -84,7 +86,7 @@ step_value m q number line a b limit p t = elim (cases_lt 1 q) [
 ]
 
 -- the steps
-steps_sharp : (q : ℕ) (m : Presentation) (k : ℕ) (steps : List Row) → m.elements ≤ 32 → IsSharp (from_steps q m k steps)
+steps_sharp : (q : ℕ) (m : Presentation) (k : ℕ) (steps : List Row) → m.elements ≤ ELEMENTS → IsSharp (from_steps q m k steps)
 unfolding step_lines
 steps_sharp q m zero steps limit = (record { one_value = λ line c d p t. end_one m line c d limit p t; one_measure = λ a j k p t. absurd p }, λ line a spelled fits. tt)
 steps_sharp q m (suc k) steps limit = (

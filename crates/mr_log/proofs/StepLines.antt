@@ -1,11 +1,13 @@
 -- Which steps and ends a line spells.
 use Rattle.std.proofs.Common.{◌≡◌, ◌≢◌, ℕ, ◌+◌, ◌<◌, ◌≤◌, List, [], ◌∷◌, ◌++◌, get_or, set, refl, sym, ap, ◌∙◌, arith, append-nil, codes}
-use Rattle.std.specs.Prelude.{◌^◌, decimal}
+use Rattle.std.specs.Prelude.{decimal}
 use Rattle.std.specs.List.{join_with_byte}
+use Rattle.mr_set.specs.declared.TheConstants.{ELEMENTS}
 use Rattle.mr_set.specs.Matroid.{Presentation}
 use Rattle.mr_assign.specs.declared.TheConstants.{POSITIONS}
 use Rattle.mr_nogood.specs.declared.row.Cite.{Cite}
 use Rattle.mr_nogood.specs.declared.row.Row.{Row}
+use Rattle.mr_text.specs.declared.TheConstants.{NUMBERS}
 use Rattle.mr_text.proofs.Decimals.{decimal_one}
 use Rattle.mr_log.specs.Lines.{pair_text, pair_texts, IsLogCite, IsStepLine, IsEndLine}
 use Rattle.mr_log.specs.Words.{words_of}
@@ -60,13 +62,13 @@ same_row rank at clause cites row e1 e2 e3 e4 =
     ap (λ r. made r row.at row.clause row.cites) e1 ∙ ap (λ p. made rank p row.clause row.cites) e2 ∙ ap (λ (a : List ℕ). made rank at a row.cites) e3 ∙ ap (λ (cs : List Cite). made rank at clause cs) e4
 
 -- a number that is no position
-pub large_position : (p : ℕ) (old mid new : List (List ℕ)) → old ≡ codes "at" ∷ mid → p < 10 ^ 9 → mid ≡ (decimal p ∷ []) ++ new → POSITIONS ≤ p → (a : ℕ) (rest : List (List ℕ)) → a < POSITIONS → old ≢ position_words a ++ rest
+pub large_position : (p : ℕ) (old mid new : List (List ℕ)) → old ≡ codes "at" ∷ mid → p < NUMBERS → mid ≡ (decimal p ∷ []) ++ new → POSITIONS ≤ p → (a : ℕ) (rest : List (List ℕ)) → a < POSITIONS → old ≢ position_words a ++ rest
 large_position p old mid new first small next large a rest low words =
     let e : decimal a ≡ decimal p = ap (λ ws. get_or ws 0 []) (ap after_first (sym words ∙ first) ∙ next) in
     let same = decimal_one a p (omega arith) small e in
     omega arith
 
-module _ (m : Presentation) (q number : ℕ) (line : List ℕ) (limit : m.elements ≤ 32) (low : 2 ≤ q) (nine : q ≤ 9) where
+module _ (m : Presentation) (q number : ℕ) (line : List ℕ) (limit : m.elements ≤ ELEMENTS) (low : 2 ≤ q) (nine : q ≤ 9) where
   -- where no position stands first there is no step
   pub no_position : ((p : ℕ) (rest : List (List ℕ)) → p < POSITIONS → words_of line ≢ position_words p ++ rest) → (row : Row) → ¬ (IsStepLine m q number line row)
   no_position never row is = never row.at (clause_words row.clause ++ cites_words q row.cites) is.step.at (row_words m q number line row limit low nine is)
@@ -122,24 +124,24 @@ module _ (m : Presentation) (q number : ℕ) (line : List ℕ) (limit : m.elemen
       same_row b.rank b.at b.clause b.cites a (p.step.rank ∙ sym t.step.rank) parts.0 parts.1 parts.2
 
 -- the words of the end
-pub end_words : (m : Presentation) (line : List ℕ) (c : Cite) → m.elements ≤ 32 → IsEndLine m line c → words_of line ≡ codes "end" ∷ cite_words c
+pub end_words : (m : Presentation) (line : List ℕ) (c : Cite) → m.elements ≤ ELEMENTS → IsEndLine m line c → words_of line ≡ codes "end" ∷ cite_words c
 end_words m line c limit is = ap words_of (is.text ∙ sym (end_join c)) ∙ words_of-join (codes "end") (cite_words c) (refl, cite_lacks m 32 c space_apart limit is.cite)
 
 -- where the first word is another there is no end
-pub no_end : (m : Presentation) (line : List ℕ) → m.elements ≤ 32 → ((rest : List (List ℕ)) → words_of line ≢ codes "end" ∷ rest) → (c : Cite) → ¬ (IsEndLine m line c)
+pub no_end : (m : Presentation) (line : List ℕ) → m.elements ≤ ELEMENTS → ((rest : List (List ℕ)) → words_of line ≢ codes "end" ∷ rest) → (c : Cite) → ¬ (IsEndLine m line c)
 no_end m line limit never c is = never (cite_words c) (end_words m line c limit is)
 
 -- where no cite follows there is none either
-pub no_end_cite : (m : Presentation) (line : List ℕ) (mid : List (List ℕ)) → m.elements ≤ 32 → words_of line ≡ codes "end" ∷ mid → ((c : Cite) (rest : List (List ℕ)) → IsLogCite m c → mid ≢ cite_words c ++ rest) → (c : Cite) → ¬ (IsEndLine m line c)
+pub no_end_cite : (m : Presentation) (line : List ℕ) (mid : List (List ℕ)) → m.elements ≤ ELEMENTS → words_of line ≡ codes "end" ∷ mid → ((c : Cite) (rest : List (List ℕ)) → IsLogCite m c → mid ≢ cite_words c ++ rest) → (c : Cite) → ¬ (IsEndLine m line c)
 no_end_cite m line mid limit words never c is = never c [] is.cite (ap after_first (sym words ∙ end_words m line c limit is) ∙ sym (append-nil (cite_words c)))
 
 -- the cite that was read is that of the end, and no word is left
-after_end : (m : Presentation) (line : List ℕ) (cite : Cite) (mid after : List (List ℕ)) (c : Cite) → m.elements ≤ 32 → words_of line ≡ codes "end" ∷ mid → IsLogCite m cite → mid ≡ cite_words cite ++ after → IsEndLine m line c → (c ≡ cite) × ([] ≡ after)
+after_end : (m : Presentation) (line : List ℕ) (cite : Cite) (mid after : List (List ℕ)) (c : Cite) → m.elements ≤ ELEMENTS → words_of line ≡ codes "end" ∷ mid → IsLogCite m cite → mid ≡ cite_words cite ++ after → IsEndLine m line c → (c ≡ cite) × ([] ≡ after)
 after_end m line cite mid after c limit words given more is =
     cite_one m c cite [] after limit is.cite given (append-nil (cite_words c) ∙ ap after_first (sym (end_words m line c limit is) ∙ words) ∙ more)
 
 -- where a word is left there is no end
-pub end_left_over : (m : Presentation) (line : List ℕ) (cite : Cite) (mid after : List (List ℕ)) → m.elements ≤ 32 → words_of line ≡ codes "end" ∷ mid → IsLogCite m cite → mid ≡ cite_words cite ++ after → (after ≡ [] → ⊥) → (c : Cite) → ¬ (IsEndLine m line c)
+pub end_left_over : (m : Presentation) (line : List ℕ) (cite : Cite) (mid after : List (List ℕ)) → m.elements ≤ ELEMENTS → words_of line ≡ codes "end" ∷ mid → IsLogCite m cite → mid ≡ cite_words cite ++ after → (after ≡ [] → ⊥) → (c : Cite) → ¬ (IsEndLine m line c)
 end_left_over m line cite mid after limit words given more some c is = some (sym (after_end m line cite mid after c limit words given more is).1)
 
 -- the end that was read
@@ -150,5 +152,5 @@ end_read m line cite mid after words given more none = record {
 }
 
 -- a line spells one end
-pub end_one : (m : Presentation) (line : List ℕ) (c d : Cite) → m.elements ≤ 32 → IsEndLine m line c → IsEndLine m line d → c ≡ d
+pub end_one : (m : Presentation) (line : List ℕ) (c d : Cite) → m.elements ≤ ELEMENTS → IsEndLine m line c → IsEndLine m line d → c ≡ d
 end_one m line c d limit p q = (after_end m line d (cite_words d) [] c limit (end_words m line d limit q) q.cite (sym (append-nil (cite_words d))) p).0

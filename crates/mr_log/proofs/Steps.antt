@@ -3,6 +3,7 @@ use Rattle.std.proofs.Common.{◌≡◌, ℕ, zero, suc, ◌+◌, ◌-◌, ◌<�
 use Rattle.std.specs.Prelude.{All, decimal}
 use Rattle.std.specs.List.{join_with_byte}
 use Rattle.std.proofs.lemmas.List.{length-append}
+use Rattle.mr_set.specs.declared.TheConstants.{ELEMENTS}
 use Rattle.mr_set.specs.Matroid.{Presentation}
 use Rattle.mr_set.proofs.Sorted.{all_head, all_tail}
 use Rattle.mr_assign.specs.declared.TheConstants.{POSITIONS}
@@ -115,21 +116,21 @@ pub newline_apart : IsApart 10
 newline_apart = record { low = omega arith; at = refl; «if» = refl; by = refl; dash = refl; test = refl; slot = refl; end = refl }
 
 -- small numbers
-numbers_lack : (c : ℕ) (x : List ℕ) → c < 48 → All (λ e. e < 32) x → AllLack c (map decimal x)
+numbers_lack : (c : ℕ) (x : List ℕ) → c < 48 → All (λ e. e < ELEMENTS) x → AllLack c (map decimal x)
 numbers_lack c [] low small = tt
 numbers_lack c (e ∷ es) low small =
-    let h = all_head (λ k. k < 32) e es small in
-    (decimal_without c e low (omega arith), numbers_lack c es low (all_tail (λ k. k < 32) e es small))
+    let h = all_head (λ k. k < ELEMENTS) e es small in
+    (decimal_without c e low (omega arith), numbers_lack c es low (all_tail (λ k. k < ELEMENTS) e es small))
 
 -- a cite
-pub cite_lacks : (m : Presentation) (c : ℕ) (d : Cite) → IsApart c → m.elements ≤ 32 → IsLogCite m d → AllLack c (cite_words d)
+pub cite_lacks : (m : Presentation) (c : ℕ) (d : Cite) → IsApart c → m.elements ≤ ELEMENTS → IsLogCite m d → AllLack c (cite_words d)
 cite_lacks m c Nothing apart limit is = absurd is
 cite_lacks m c (Test []) apart limit is = (apart.test, (apart.dash, tt))
 cite_lacks m c (Test (e ∷ es)) apart limit is = (apart.test, numbers_lack c (e ∷ es) apart.low (λ k d lt. let h = is.set.elements k d lt in omega arith))
 cite_lacks m c (Slot s) apart limit is = (apart.slot, (decimal_without c s apart.low is, tt))
 
 -- several cites
-cites_lack : (m : Presentation) (c : ℕ) (list : List Cite) → IsApart c → m.elements ≤ 32 → AreCites m list → AllLack c (list_words list)
+cites_lack : (m : Presentation) (c : ℕ) (list : List Cite) → IsApart c → m.elements ≤ ELEMENTS → AreCites m list → AllLack c (list_words list)
 cites_lack m c [] apart limit are = tt
 cites_lack m c (d ∷ list) apart limit are = all_lack-append c (cite_words d) (list_words list) (cite_lacks m c d apart limit are.0) (cites_lack m c list apart limit are.1)
 
@@ -160,7 +161,7 @@ pub values_below : (q : ℕ) (a : List ℕ) → q ≤ 9 → All (λ v. v < q) a 
 values_below q a nine small k d lt = let h = small k d lt in omega arith
 
 -- the words of a step hold no such byte
-pub step_lacks : (m : Presentation) (c q number : ℕ) (row : Row) → IsApart c → m.elements ≤ 32 → q ≤ 9 → IsLogStep m q number row → AllLack c (step_words q row)
+pub step_lacks : (m : Presentation) (c q number : ℕ) (row : Row) → IsApart c → m.elements ≤ ELEMENTS → q ≤ 9 → IsLogStep m q number row → AllLack c (step_words q row)
 step_lacks m c q number row apart limit nine is =
     let place = is.at in
     let size = is.clause.positions in (
@@ -178,7 +179,7 @@ step_lacks m c q number row apart limit nine is =
     )
 
 -- the words of a line are those of its step
-pub row_words : (m : Presentation) (q number : ℕ) (line : List ℕ) (row : Row) → m.elements ≤ 32 → 2 ≤ q → q ≤ 9 → IsStepLine m q number line row → words_of line ≡ step_words q row
+pub row_words : (m : Presentation) (q number : ℕ) (line : List ℕ) (row : Row) → m.elements ≤ ELEMENTS → 2 ≤ q → q ≤ 9 → IsStepLine m q number line row → words_of line ≡ step_words q row
 row_words m q number line row limit low nine is =
     let size = is.step.count in
     ap words_of (is.text ∙ sym (step_join q row low (omega arith)))

@@ -1,10 +1,11 @@
 -- The lines of a refutation log after its matroid.
-use Rattle.std.specs.Prelude.{◌≡◌, ℕ, ◌+◌, ◌-◌, ◌^◌, ◌<◌, ◌≤◌, List, [], ◌∷◌, ◌++◌, length, take, map, All, codes, decimal, ◌==◌, if◌then◌else◌}
+use Rattle.std.specs.Prelude.{◌≡◌, ℕ, ◌+◌, ◌-◌, ◌<◌, ◌≤◌, List, [], ◌∷◌, ◌++◌, length, take, map, All, codes, decimal, ◌==◌, if◌then◌else◌}
 use Rattle.std.specs.List.{join_with_byte}
 use Rattle.mr_set.specs.Subsets.{IsSetOf}
 use Rattle.mr_set.specs.Matroid.{Presentation}
 use Rattle.mr_assign.specs.Assign.{IsAssign}
 use Rattle.mr_assign.specs.declared.TheConstants.{POSITIONS, VALUES}
+use Rattle.mr_text.specs.declared.TheConstants.{NUMBERS}
 use Rattle.mr_text.specs.Text.{set_text}
 use Rattle.mr_text.specs.Format.{Table}
 use Rattle.mr_text.specs.Tables.{never}
@@ -46,7 +47,7 @@ step_text q row = codes "at " ++ decimal row.at ++ codes " if " ++ clause_text r
 abbrev pub IsLogCite : Presentation → Cite → Type 0
 IsLogCite m Nothing = ⊥
 IsLogCite m (Test x) = IsSetOf m.elements m.rank x
-IsLogCite m (Slot s) = s < 10 ^ 9
+IsLogCite m (Slot s) = s < NUMBERS
 
 -- The step with this number. Its positions are numbers below `POSITIONS`, its values elements, and it has a cite for each
 -- element but 0.

@@ -5,16 +5,17 @@ ghost use Rattle.mr_set.specs.Subsets.{IsSetOf};
 ghost use Rattle.mr_file.specs.Reading.{listing};
 ghost use Rattle.mr_log.specs.Lines.{IsLogCite};
 ghost use Rattle.mr_log.specs.Private.Words.{Reads, IsSetFrom, IsCites, set_words, cite_words, cites_words};
+ghost use Rattle.mr_text.specs.declared.TheConstants.{NUMBERS};
 
 use crate::words::WordsLeft;
 use mr_file::Listed;
-use mr_nogood::Cite;
+use mr_nogood::{Cite, ROW_CITES};
 use mr_set::Set;
 use mr_text::number;
 
 /// The number that the next word spells.
 pub fn read_number(words: &mut WordsLeft) -> Option<u32>
-    ensures { Reads (λ v. v < 10 ^ 9) (λ v. decimal v ∷ []) result words.old words.new }
+    ensures { Reads (λ v. v < NUMBERS) (λ v. decimal v ∷ []) result words.old words.new }
 {
     match words.next() {
         None => None,
@@ -104,12 +105,12 @@ fn slot_of(number: Option<u32>) -> Option<Cite>
 }
 
 /// A cite for each value of the field with `q` elements, and `Nothing` for the others.
-pub fn read_cites(words: &mut WordsLeft, listed: &Listed, q: u8) -> Option<[Cite; 8]>
+pub fn read_cites(words: &mut WordsLeft, listed: &Listed, q: u8) -> Option<[Cite; ROW_CITES]>
     requires elements { listed.now.elements ≤ ELEMENTS }
     requires field { (2 ≤ q) × (q ≤ 9) }
     ensures { Reads (IsCites (listing listed.now) q) (cites_words q) result words.old words.new }
 {
-    let mut cites = [Cite::Nothing; 8];
+    let mut cites = [Cite::Nothing; ROW_CITES];
     for k in 0..usize::from(q - 1) {
         match read_cite(words, listed) {
             None => return None,

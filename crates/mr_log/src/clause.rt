@@ -3,6 +3,7 @@ ghost use Rattle.mr_assign.specs.Assign.{no_values};
 ghost use Rattle.mr_assign.specs.declared.TheConstants.{POSITIONS};
 ghost use Rattle.mr_log.specs.Lines.{pair_text};
 ghost use Rattle.mr_log.specs.Private.Words.{Reads, IsClauseFrom, pair_words, clause_words};
+ghost use Rattle.mr_text.specs.declared.TheConstants.{NUMBERS};
 
 use crate::words::WordsLeft;
 use mr_assign::{Assign, POSITIONS};
@@ -10,8 +11,8 @@ use mr_text::{number, split_once};
 
 // The two numbers of a pair.
 fn read_pair(word: &[u8]) -> Option<(u32, u32)>
-    ensures { MatchOption result ((p v : ℕ) → p < 10 ^ 9 → v < 10 ^ 9 → word.now ≢ pair_text p v)
-        (λ x. (x.0 < 10 ^ 9) × (x.1 < 10 ^ 9) × (word.now ≡ pair_text x.0 x.1)) }
+    ensures { MatchOption result ((p v : ℕ) → p < NUMBERS → v < NUMBERS → word.now ≢ pair_text p v)
+        (λ x. (x.0 < NUMBERS) × (x.1 < NUMBERS) × (word.now ≡ pair_text x.0 x.1)) }
 {
     match split_once(word, b':') {
         None => None,

@@ -10,7 +10,7 @@ ghost use Rattle.mr_nogood.specs.declared.row.Row.{Row};
 use crate::log::Log;
 use mr_assign::{Assign, POSITIONS};
 use mr_file::write_matroid;
-use mr_nogood::{Cite, Row};
+use mr_nogood::{Cite, ROW_CITES, Row};
 use mr_text::Text;
 use std::alloc::{AllocError, Global};
 
@@ -105,7 +105,7 @@ fn write_gap(first: bool, out: &mut Text) -> Result<(), AllocError>
 }
 
 // The cites for the values of the field with `q` elements.
-fn write_cites(cites: &[Cite; 8], q: u8, out: &mut Text) -> Result<(), AllocError>
+fn write_cites(cites: &[Cite; ROW_CITES], q: u8, out: &mut Text) -> Result<(), AllocError>
     requires { (2 ≤ q) × (q ≤ 9) }
     ensures { OnOk result (out.new ≡ out.old ++ join_with_byte 32 (map cite_text (take (q - 1) cites.now))) }
 {

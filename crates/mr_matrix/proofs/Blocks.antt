@@ -1,11 +1,12 @@
 -- The text of a whole block.
 use Rattle.std.proofs.Common.{◌≡◌, ℕ, zero, suc, ◌+◌, ◌<◌, ◌≤◌, List, [], ◌∷◌, ◌++◌, length, map, refl, sym, ap, subst, ◌∙◌, ⊎_elim, arith, append_assoc, append-nil, codes}
-use Rattle.std.specs.Prelude.{◌^◌, All}
+use Rattle.std.specs.Prelude.{All}
 use Rattle.std.proofs.lemmas.Bool.{cases_lt}
 use Rattle.mr_field.specs.Gf.{Gf, gf2, gf3, gf4, gf5, gf7, gf8, gf9, order}
 use Rattle.mr_set.specs.Subsets.{choose}
 use Rattle.mr_set.specs.declared.TheConstants.{ELEMENTS, SETS}
 use Rattle.mr_set.proofs.Sorted.{all_cons, all_none}
+use Rattle.mr_text.specs.declared.TheConstants.{NUMBERS}
 use Rattle.mr_text.specs.Text.{numbers_text, text_of_lines, BeginsWith}
 use Rattle.mr_text.proofs.Formats.{lacks-append}
 use Rattle.mr_text.specs.Format.{StandsFor}
@@ -18,7 +19,7 @@ use Rattle.mr_matrix.proofs.NumberLines.{no_newline}
 use Rattle.mr_matrix.proofs.Headers.{shape_fits}
 
 -- orders have one digit
-pub order_small : (f : Gf) → order f < 10 ^ 9
+pub order_small : (f : Gf) → order f < NUMBERS
 order_small gf2 = omega arith
 order_small gf3 = omega arith
 order_small gf4 = omega arith
@@ -131,13 +132,13 @@ rows_stand f n (suc k) rows (row ∷ more) number rest count each =
     )
 
 -- the text of a block begins with its first line
-pub header_begins : (a : Grid) (rest : List ℕ) → a.cols < 10 ^ 9 → IsGrid a → BeginsWith (block_text a ++ rest) (header_text (order a.field) (height a) a.cols) (text_of_lines (map numbers_text a.rows ++ codes "end" ∷ []) ++ rest)
+pub header_begins : (a : Grid) (rest : List ℕ) → a.cols < NUMBERS → IsGrid a → BeginsWith (block_text a ++ rest) (header_text (order a.field) (height a) a.cols) (text_of_lines (map numbers_text a.rows ++ codes "end" ∷ []) ++ rest)
 header_begins a rest wide grid =
     let flat = grid.rows in
     record {
       text = split_line (header_text (order a.field) (height a) a.cols) (text_of_lines (map numbers_text a.rows ++ codes "end" ∷ [])) rest;
       whole = lacks-append 10 (codes "matrix ") (numbers_text (order a.field ∷ height a ∷ a.cols ∷ [])) refl (no_newline (order a.field ∷ height a ∷ a.cols ∷ [])
-          (all_cons (λ v. v < 10 ^ 9) (order a.field) (height a ∷ a.cols ∷ []) (order_small a.field) (all_cons (λ v. v < 10 ^ 9) (height a) (a.cols ∷ []) (omega arith) (all_cons (λ v. v < 10 ^ 9) a.cols [] wide (all_none (λ v. v < 10 ^ 9))))));
+          (all_cons (λ v. v < NUMBERS) (order a.field) (height a ∷ a.cols ∷ []) (order_small a.field) (all_cons (λ v. v < NUMBERS) (height a) (a.cols ∷ []) (omega arith) (all_cons (λ v. v < NUMBERS) a.cols [] wide (all_none (λ v. v < NUMBERS))))));
     }
 
 -- the text of a block stands for its matrix

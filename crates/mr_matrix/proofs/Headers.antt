@@ -1,6 +1,6 @@
 -- The first line of a matrix block, and its rows.
 use Rattle.std.proofs.Common.{◌≡◌, Option, Some, None, ◌≢◌, ℕ, ◌<◌, ◌≤◌, List, [], ◌∷◌, ◌++◌, length, take, drop, get_or, true, false, refl, sym, ap, subst, ◌∙◌, ⊎_elim, arith, codes}
-use Rattle.std.specs.Prelude.{◌^◌, All, nat_eq, MatchOption, slice_index}
+use Rattle.std.specs.Prelude.{All, nat_eq, MatchOption, slice_index}
 use Rattle.std.proofs.lemmas.Bool.{cases_lt}
 use Rattle.std.specs.Cmp.Lexicographic.{pointwise, same_text, other_text}
 use Rattle.std.proofs.lemmas.List.{take_at, take-append-drop, append_cancel_left}
@@ -8,6 +8,7 @@ use Rattle.mr_field.specs.Gf.{Gf, order}
 use Rattle.mr_set.proofs.Sorted.{all_head, all_tail, all_cons, all_none}
 use Rattle.mr_set.specs.Subsets.{choose}
 use Rattle.mr_set.specs.declared.TheConstants.{ELEMENTS, SETS}
+use Rattle.mr_text.specs.declared.TheConstants.{NUMBERS}
 use Rattle.mr_text.specs.Text.{numbers_text}
 use Rattle.mr_file.specs.declared.fault.Measure.{Measure}
 use Rattle.mr_file.specs.declared.fault.Measure.TheVariants.{Elements, Rank, Sets, Nonbases}
@@ -25,10 +26,10 @@ pub front_found : (line key word : List ℕ) → pointwise nat_eq (take (length 
 front_found line key word same is = sym (take-append-drop (length key) line) ∙ ap (λ w. w ++ drop (length key) line) (same_text (take (length key) line) key (sym same)) ∙ ap (λ w. key ++ w) (sym is)
 
 -- the numbers of a first line
-pub header_numbers : (q : ℕ) (line words : List ℕ) (s : Shape) → q < 10 ^ 9 → line ≡ codes "matrix " ++ words → IsHeaderLine q line s → AreNumbers 3 words (q ∷ s.rows ∷ s.cols ∷ [])
+pub header_numbers : (q : ℕ) (line words : List ℕ) (s : Shape) → q < NUMBERS → line ≡ codes "matrix " ++ words → IsHeaderLine q line s → AreNumbers 3 words (q ∷ s.rows ∷ s.cols ∷ [])
 header_numbers q line words s small is header = record {
   size = refl;
-  small = all_cons (λ v. v < 10 ^ 9) q (s.rows ∷ s.cols ∷ []) small (all_cons (λ v. v < 10 ^ 9) s.rows (s.cols ∷ []) header.rows (all_cons (λ v. v < 10 ^ 9) s.cols [] header.cols (all_none (λ v. v < 10 ^ 9))));
+  small = all_cons (λ v. v < NUMBERS) q (s.rows ∷ s.cols ∷ []) small (all_cons (λ v. v < NUMBERS) s.rows (s.cols ∷ []) header.rows (all_cons (λ v. v < NUMBERS) s.cols [] header.cols (all_none (λ v. v < NUMBERS))));
   text = append_cancel_left (codes "matrix ") words (numbers_text (q ∷ s.rows ∷ s.cols ∷ [])) (sym is ∙ header.text);
 }
 
@@ -36,10 +37,10 @@ header_numbers q line words s small is header = record {
 pub numbers_header : (q : ℕ) (line words list : List ℕ) (s : Shape) → line ≡ codes "matrix " ++ words → AreNumbers 3 words list → list ≡ q ∷ s.rows ∷ s.cols ∷ [] → IsHeaderLine q line s
 numbers_header q line words list s is are named =
     let there : AreNumbers 3 words (q ∷ s.rows ∷ s.cols ∷ []) = subst (AreNumbers 3 words) named are in
-    let rest = all_tail (λ v. v < 10 ^ 9) q (s.rows ∷ s.cols ∷ []) there.small in
+    let rest = all_tail (λ v. v < NUMBERS) q (s.rows ∷ s.cols ∷ []) there.small in
     record {
-      rows = all_head (λ v. v < 10 ^ 9) s.rows (s.cols ∷ []) rest;
-      cols = all_head (λ v. v < 10 ^ 9) s.cols [] (all_tail (λ v. v < 10 ^ 9) s.rows (s.cols ∷ []) rest);
+      rows = all_head (λ v. v < NUMBERS) s.rows (s.cols ∷ []) rest;
+      cols = all_head (λ v. v < NUMBERS) s.cols [] (all_tail (λ v. v < NUMBERS) s.rows (s.cols ∷ []) rest);
       text = is ∙ ap (λ w. codes "matrix " ++ w) there.text;
     }
 
@@ -63,7 +64,7 @@ shape_fits s wide flat few Sets h = let g = h.2 in omega arith
 shape_fits s wide flat few Nonbases h = h
 
 -- a row is numbers below the order
-pub row_numbers : (f : Gf) (n : ℕ) (line row : List ℕ) → order f < 10 ^ 9 → IsRowLine f n line row → AreNumbers n line row
+pub row_numbers : (f : Gf) (n : ℕ) (line row : List ℕ) → order f < NUMBERS → IsRowLine f n line row → AreNumbers n line row
 row_numbers f n line row small is = record { size = is.of_field.size; small = λ k d l. let h = is.of_field.elements k d l in omega arith; text = is.text }
 
 -- and the other way round
@@ -71,13 +72,13 @@ pub numbers_row : (f : Gf) (n : ℕ) (line row : List ℕ) → AreNumbers n line
 numbers_row f n line row are below = record { of_field = record { size = are.size; elements = below }; text = are.text }
 
 -- what is answered for a line of three numbers
-pub shape_answer : (q : ℕ) (line words list : List ℕ) (r : Option Shape) → q < 10 ^ 9 → line ≡ codes "matrix " ++ words → AreNumbers 3 words list → MatchOption r (slice_index list 0 ≢ q) (λ s. list ≡ q ∷ s.rows ∷ s.cols ∷ [])
+pub shape_answer : (q : ℕ) (line words list : List ℕ) (r : Option Shape) → q < NUMBERS → line ≡ codes "matrix " ++ words → AreNumbers 3 words list → MatchOption r (slice_index list 0 ≢ q) (λ s. list ≡ q ∷ s.rows ∷ s.cols ∷ [])
     → MatchOption r ((s : Shape) → IsHeaderLine q line s → ⊥) (IsHeaderLine q line)
 shape_answer q line words list None small is are answer = λ s header. answer (ap (λ (w : List ℕ). slice_index w 0) (one_listing 3 words list (q ∷ s.rows ∷ s.cols ∷ []) are (header_numbers q line words s small is header)))
 shape_answer q line words list (Some s) small is are answer = numbers_header q line words list s is are answer
 
 -- a line with a number that is no element
-pub row_too_large : (f : Gf) (n q : ℕ) (line list row : List ℕ) → order f < 10 ^ 9 → q ≡ order f → AreNumbers n line list → (All (λ v. v < q) list → ⊥) → IsRowLine f n line row → ⊥
+pub row_too_large : (f : Gf) (n q : ℕ) (line list row : List ℕ) → order f < NUMBERS → q ≡ order f → AreNumbers n line list → (All (λ v. v < q) list → ⊥) → IsRowLine f n line row → ⊥
 row_too_large f n q line list row small is are above here =
     let same = one_listing n line row list (row_numbers f n line row small here) are in
     above (subst (λ (w : List ℕ). All (λ v. v < q) w) same (subst (λ k. All (λ v. v < k) row) (sym is) here.of_field.elements))

@@ -1,8 +1,9 @@
 -- Numbers on a line, one after another.
 use Rattle.std.proofs.Common.{◌≡◌, ◌↔◌, ℕ, zero, suc, ◌<◌, List, [], ◌∷◌, ◌++◌, length, refl, sym, ap, subst, ◌∙◌, arith, append_assoc, Option, Some, None}
-use Rattle.std.specs.Prelude.{◌^◌, All, decimal}
+use Rattle.std.specs.Prelude.{All, decimal}
 use Rattle.mr_set.specs.Elements.{is_element}
 use Rattle.mr_set.proofs.Sorted.{all_head, all_tail, all_cons, all_none}
+use Rattle.mr_text.specs.declared.TheConstants.{NUMBERS}
 use Rattle.mr_text.specs.Text.{Lacks, Spells, numbers_text}
 use Rattle.mr_text.proofs.Decimals.{decimal_without, decimal_one}
 use Rattle.mr_text.proofs.Formats.{same_parts, has_separator, lacks-append}
@@ -10,7 +11,7 @@ use Rattle.mr_matrix.specs.Private.Numbers.{AreNumbers}
 
 -- small numbers
 abbrev Small : ℕ → Type 0
-Small v = v < 10 ^ 9
+Small v = v < NUMBERS
 
 -- a line without a space has one number
 no_split : (k : ℕ) (line xs : List ℕ) → Lacks 32 line → AreNumbers (suc (suc k)) line xs → ⊥
@@ -24,7 +25,7 @@ first_number : (k : ℕ) (line word rest xs : List ℕ) → line ≡ word ++ 32 
 first_number k line word rest [] is whole are = absurd (let size = are.size in omega arith)
 first_number k line word rest (x ∷ []) is whole are = absurd (let size = are.size in omega arith)
 first_number k line word rest (x ∷ y ∷ xs) is whole are =
-    let small : x < 10 ^ 9 = all_head Small x (y ∷ xs) are.small in
+    let small : x < NUMBERS = all_head Small x (y ∷ xs) are.small in
     let parts = same_parts 32 word (decimal x) rest (numbers_text (y ∷ xs)) whole (decimal_without 32 x (omega arith) small) (sym is ∙ are.text) in
     (x, y ∷ xs, refl, (small, parts.0), record { size = (let size = are.size in omega arith); small = all_tail Small x (y ∷ xs) are.small; text = parts.1 })
 
@@ -102,7 +103,7 @@ pub never_spelled : (word : List ℕ) (r : Option ℕ) → ((v : ℕ) → (r ≡
 never_spelled word r answer none v spelled = let some = (answer v).1 spelled in cc
 
 -- a listing stands for its numbers alone
-pub same_listing : (x y : List ℕ) → length x ≡ length y → All (λ v. v < 10 ^ 9) x → All (λ v. v < 10 ^ 9) y → numbers_text x ≡ numbers_text y → x ≡ y
+pub same_listing : (x y : List ℕ) → length x ≡ length y → All (λ v. v < NUMBERS) x → All (λ v. v < NUMBERS) y → numbers_text x ≡ numbers_text y → x ≡ y
 same_listing [] [] size p q same = refl
 same_listing [] (f ∷ fs) size p q same = absurd (omega arith)
 same_listing (e ∷ es) [] size p q same = absurd (omega arith)
@@ -118,7 +119,7 @@ same_listing (e ∷ d ∷ es) (f ∷ g ∷ fs) size p q same =
     ap (λ k. k ∷ d ∷ es) head ∙ ap (λ w. f ∷ w) tail
 
 -- a line has no byte but digits and spaces, so no newline
-pub no_newline : (x : List ℕ) → All (λ v. v < 10 ^ 9) x → Lacks 10 (numbers_text x)
+pub no_newline : (x : List ℕ) → All (λ v. v < NUMBERS) x → Lacks 10 (numbers_text x)
 no_newline [] all = refl
 no_newline (e ∷ []) all = decimal_without 10 e (omega arith) (all_head Small e [] all)
 no_newline (e ∷ d ∷ es) all = lacks-append 10 (decimal e) (32 ∷ numbers_text (d ∷ es)) (decimal_without 10 e (omega arith) (all_head Small e (d ∷ es) all)) (no_newline (d ∷ es) (all_tail Small e (d ∷ es) all))

@@ -1,10 +1,11 @@
 -- The text of a matroid and a matrix.
 use Rattle.std.proofs.Common.{◌≡◌, ℕ, zero, suc, ◌+◌, ◌<◌, List, [], ◌∷◌, ◌++◌, length, map, refl, sym, ap, subst, ◌∙◌, inl, inr, arith, codes, append-nil, append_assoc, Result, Ok, Err}
-use Rattle.std.specs.Prelude.{◌^◌, MatchResult}
+use Rattle.std.specs.Prelude.{MatchResult}
 use Rattle.std.specs.Borrow.{Bor}
 use Rattle.mr_field.specs.Gf.{Gf, order}
 use Rattle.mr_set.specs.Matroid.{Presentation, IsPresentation, IsMatroid}
 use Rattle.mr_matroid.specs.Exchange.{IsWithinLimits, HasNoBasis, IsFirstFailure}
+use Rattle.mr_text.specs.declared.TheConstants.{NUMBERS}
 use Rattle.mr_text.specs.Format.{FirstFault, grammar, size, done, line_of, IsLineOf, IsLineFault, IsFirstFault, StandsFor, IsTextOf, IsFirstFaultOf}
 use Rattle.mr_text.specs.Text.{numbers_text, text_of_lines}
 use Rattle.mr_text.specs.Tables.{fixed}
@@ -41,7 +42,7 @@ sized_line q r n bytes s rest rows cols line = record {
 }
 
 -- a first line of another shape
-pub other_size : (q r n : ℕ) (number : ℕ) (bytes : List ℕ) (s : Shape) (rest : List ℕ) → q < 10 ^ 9 → r < 10 ^ 9 → n < 10 ^ 9 → (s.rows ≡ r → s.cols ≡ n → ⊥) → IsLineOf (header_words q) bytes s rest
+pub other_size : (q r n : ℕ) (number : ℕ) (bytes : List ℕ) (s : Shape) (rest : List ℕ) → q < NUMBERS → r < NUMBERS → n < NUMBERS → (s.rows ≡ r → s.cols ≡ n → ⊥) → IsLineOf (header_words q) bytes s rest
     → IsLineFault (fixed {M = Measure} (header_text q r n)) number bytes (grammar number)
 other_size q r n number bytes s rest small few wide other line = (
   refl,
@@ -56,7 +57,7 @@ other_size q r n number bytes s rest small few wide other line = (
 )
 
 -- a fault of the first line whatever the shape is one for this shape
-header_fault : (q r n : ℕ) (number : ℕ) (bytes : List ℕ) (fault : FirstFault Measure) → r < 10 ^ 9 → n < 10 ^ 9 → IsLineFault (header_words q) number bytes fault → IsLineFault (fixed {M = Measure} (header_text q r n)) number bytes fault
+header_fault : (q r n : ℕ) (number : ℕ) (bytes : List ℕ) (fault : FirstFault Measure) → r < NUMBERS → n < NUMBERS → IsLineFault (header_words q) number bytes fault → IsLineFault (fixed {M = Measure} (header_text q r n)) number bytes fault
 header_fault q r n number bytes (grammar l) few wide (is, inl short) = (is, inl short)
 header_fault q r n number bytes (grammar l) few wide (is, inr s) = (
   is,
@@ -65,12 +66,12 @@ header_fault q r n number bytes (grammar l) few wide (is, inr s) = (
 header_fault q r n number bytes (size l m) few wide (is, large) = absurd large.exceeds
 
 -- a refusal of the first line
-pub header_refused : (f : Gf) (q r n : ℕ) (number : ℕ) (bytes : List ℕ) (e : FileFault) → q ≡ order f → r < 10 ^ 9 → n < 10 ^ 9 → Names (IsLineFault (header_words q) number bytes) e → Names (IsFirstFault (sized_block f r n done) number bytes) e
+pub header_refused : (f : Gf) (q r n : ℕ) (number : ℕ) (bytes : List ℕ) (e : FileFault) → q ≡ order f → r < NUMBERS → n < NUMBERS → Names (IsLineFault (header_words q) number bytes) e → Names (IsFirstFault (sized_block f r n done) number bytes) e
 header_refused f q r n number bytes e same few wide = names_map (IsLineFault (header_words q) number bytes) (IsFirstFault (sized_block f r n done) number bytes) e
     (λ g h. inl (subst (λ k. IsLineFault (fixed (header_text k r n)) number bytes g) same (header_fault q r n number bytes g few wide h)))
 
 -- a first line of another shape is a refusal
-pub size_refused : (f : Gf) (q r n : ℕ) (number : ℕ) (bytes : List ℕ) (s : Shape) (rest : List ℕ) → q ≡ order f → r < 10 ^ 9 → n < 10 ^ 9 → ((s.rows ≡ r) × (s.cols ≡ n) → ⊥) → IsLineOf (header_words q) bytes s rest → IsFirstFault (sized_block f r n done) number bytes (grammar number)
+pub size_refused : (f : Gf) (q r n : ℕ) (number : ℕ) (bytes : List ℕ) (s : Shape) (rest : List ℕ) → q ≡ order f → r < NUMBERS → n < NUMBERS → ((s.rows ≡ r) × (s.cols ≡ n) → ⊥) → IsLineOf (header_words q) bytes s rest → IsFirstFault (sized_block f r n done) number bytes (grammar number)
 size_refused f q r n number bytes s rest same few wide other line = inl (subst (λ k. IsLineFault (fixed {M = Measure} (header_text k r n)) number bytes (grammar number)) same
     (other_size q r n number bytes s rest (let small = order_small f in omega arith) few wide (λ rows cols. other (rows, cols)) line))
 
@@ -168,7 +169,7 @@ pair_read f bytes p (next, stands) = by_file (file_then (λ k. sized_block f k.r
         })
 
 -- the text of a block stands for its matrix, where the size is known
-sized_stands : (a : Grid) (number : ℕ) (rest : List ℕ) → a.cols < 10 ^ 9 → IsGrid a → StandsFor (sized_block a.field (height a) a.cols done) number (block_text a ++ rest) a rest (number + 1 + height a + 1)
+sized_stands : (a : Grid) (number : ℕ) (rest : List ℕ) → a.cols < NUMBERS → IsGrid a → StandsFor (sized_block a.field (height a) a.cols done) number (block_text a ++ rest) a rest (number + 1 + height a + 1)
 sized_stands a number rest wide grid = (
   tt,
   text_of_lines (map numbers_text a.rows ++ codes "end" ∷ []) ++ rest,

@@ -1,9 +1,10 @@
 -- A line of a matrix block spells one value.
 use Rattle.std.proofs.Common.{◌≡◌, ℕ, zero, suc, ◌<◌, List, [], ◌∷◌, ◌++◌, refl, sym, ap, ◌∙◌, arith, codes}
-use Rattle.std.specs.Prelude.{◌^◌, All}
+use Rattle.std.specs.Prelude.{All}
 use Rattle.std.proofs.lemmas.List.{append_cancel_left}
 use Rattle.mr_field.specs.Gf.{Gf, order}
 use Rattle.mr_set.proofs.Sorted.{all_cons, all_none}
+use Rattle.mr_text.specs.declared.TheConstants.{NUMBERS}
 use Rattle.mr_text.specs.Text.{numbers_text}
 use Rattle.mr_text.specs.Private.Sharp.{IsSharpTable, IsSharp}
 use Rattle.mr_file.specs.declared.fault.Measure.{Measure}
@@ -32,7 +33,7 @@ shape_one s Sets Nonbases p q = absurd q
 shape_one s Nonbases n p q = absurd p
 
 -- a first line names one shape
-pub header_one : (q : ℕ) (line : List ℕ) (s t : Shape) → q < 10 ^ 9 → IsHeaderLine q line s → IsHeaderLine q line t → s ≡ t
+pub header_one : (q : ℕ) (line : List ℕ) (s t : Shape) → q < NUMBERS → IsHeaderLine q line s → IsHeaderLine q line t → s ≡ t
 header_one q line s t small one two =
     let same = same_listing (q ∷ s.rows ∷ s.cols ∷ []) (q ∷ t.rows ∷ t.cols ∷ []) refl (three s.rows s.cols one.rows one.cols) (three t.rows t.cols two.rows two.cols)
     (append_cancel_left (codes "matrix ") (numbers_text (q ∷ s.rows ∷ s.cols ∷ [])) (numbers_text (q ∷ t.rows ∷ t.cols ∷ [])) (sym one.text ∙ two.text)) in
@@ -40,8 +41,8 @@ header_one q line s t small one two =
     let cols : s.cols ≡ t.cols = cc in
     ap (λ r. let u : Shape = record { rows = r; cols = s.cols } in u) rows ∙ ap (λ n. let u : Shape = record { rows = t.rows; cols = n } in u) cols
   where
-    three : (r n : ℕ) → r < 10 ^ 9 → n < 10 ^ 9 → All (λ v. v < 10 ^ 9) (q ∷ r ∷ n ∷ [])
-    three r n a b = all_cons (λ v. v < 10 ^ 9) q (r ∷ n ∷ []) small (all_cons (λ v. v < 10 ^ 9) r (n ∷ []) a (all_cons (λ v. v < 10 ^ 9) n [] b (all_none (λ v. v < 10 ^ 9))))
+    three : (r n : ℕ) → r < NUMBERS → n < NUMBERS → All (λ v. v < NUMBERS) (q ∷ r ∷ n ∷ [])
+    three r n a b = all_cons (λ v. v < NUMBERS) q (r ∷ n ∷ []) small (all_cons (λ v. v < NUMBERS) r (n ∷ []) a (all_cons (λ v. v < NUMBERS) n [] b (all_none (λ v. v < NUMBERS))))
 
 -- a line is one row
 row_sharp : (f : Gf) (n : ℕ) → IsSharpTable (row_table f n)

@@ -1,8 +1,9 @@
 -- Matrix blocks, line by line, and whole.
-use Rattle.std.specs.Prelude.{◌≡◌, ℕ, zero, suc, ◌^◌, ◌<◌, ◌≤◌, List, [], ◌∷◌, ◌++◌, map, codes}
+use Rattle.std.specs.Prelude.{◌≡◌, ℕ, zero, suc, ◌<◌, ◌≤◌, List, [], ◌∷◌, ◌++◌, map, codes}
 use Rattle.mr_field.specs.Gf.{Gf, order}
 use Rattle.mr_set.specs.Subsets.{choose}
 use Rattle.mr_set.specs.declared.TheConstants.{ELEMENTS, SETS}
+use Rattle.mr_text.specs.declared.TheConstants.{NUMBERS}
 use Rattle.mr_text.specs.Text.{numbers_text, text_of_lines}
 use Rattle.mr_text.specs.Format.{Table, Format, line_of}
 use Rattle.mr_text.specs.Tables.{never, fixed}
@@ -17,8 +18,8 @@ header_text q r n = codes "matrix " ++ numbers_text (q ∷ r ∷ n ∷ [])
 
 -- the line is the first of a matrix of this shape
 pub record IsHeaderLine (q : ℕ) (line : List ℕ) (s : Shape) : Type 0 where
-  pub rows : s.rows < 10 ^ 9
-  pub cols : s.cols < 10 ^ 9
+  pub rows : s.rows < NUMBERS
+  pub cols : s.cols < NUMBERS
   pub text : line ≡ header_text q s.rows s.cols
 
 -- by which measure a shape is too large: more columns than elements may be, or else more rows than columns, or else too many sets

@@ -16,7 +16,7 @@ use crate::table::Table;
 use mr_assign::Assign;
 use mr_exchange::{Problem, cube_at};
 use mr_frame::Frame;
-use mr_nogood::{Cite, Row, fails};
+use mr_nogood::{Cite, ROW_CITES, Row, fails};
 use std::alloc::{AllocError, Global};
 
 /// The cite that refutes the assignment without values, where each cube has one. The rows that are added for it
@@ -166,11 +166,11 @@ fn refutes(frame: &Frame, table: &Table<'_>, a: &Assign, cite: &Cite) -> bool
 }
 
 // The cites of a row: these, and none for the other values.
-fn all_eight(cites: &[Cite]) -> [Cite; 8]
+fn all_eight(cites: &[Cite]) -> [Cite; ROW_CITES]
     requires { length cites.now ≤ VALUES }
     ensures { (k : ℕ) → slice_index_or result k Cite.Nothing ≡ slice_index_or cites.now k Cite.Nothing }
 {
-    let mut all = [Cite::Nothing; 8];
+    let mut all = [Cite::Nothing; ROW_CITES];
     for k in 0..cites.len() {
         all[k] = cites[k];
     }

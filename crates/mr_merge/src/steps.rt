@@ -11,7 +11,7 @@ ghost use Rattle.mr_merge.specs.Private.Marks.{AreNumbers, AreRenumbered};
 use crate::cite::cite_at;
 use crate::table::Table;
 use mr_assign::VALUES;
-use mr_nogood::{Cite, Row, RowList};
+use mr_nogood::{Cite, ROW_CITES, Row, RowList};
 use std::alloc::{AllocError, Global};
 
 /// For each slot of the list its place there, among `count` slots.
@@ -66,11 +66,11 @@ fn as_step(row: &Row, j: u32, numbers: &[u32]) -> Row
 }
 
 // The row's cites with the new numbers of their slots.
-fn renamed_cites(row: &Row, numbers: &[u32]) -> [Cite; 8]
+fn renamed_cites(row: &Row, numbers: &[u32]) -> [Cite; ROW_CITES]
     requires { (k s : ℕ) → cite_for row.now k ≡ Slot s → s < length numbers.now }
     ensures { result ≡ map (renamed (slice_index numbers.now)) row.now.cites }
 {
-    let mut cites = [Cite::Nothing; 8];
+    let mut cites = [Cite::Nothing; ROW_CITES];
     for k in 0..VALUES {
         cites[k as usize] = renamed(cite_at(row, k), numbers);
     }

@@ -20,7 +20,7 @@ use mr_field::Field;
 use mr_frame::Frame;
 use mr_log::write_log;
 use mr_matroid::Matroid;
-use mr_nogood::{Cite, Row, fails, follows};
+use mr_nogood::{Cite, ROW_CITES, Row, fails, follows};
 use mr_set::{ELEMENTS, Set, binomial, sets_of};
 use std::alloc::{AllocError, Global};
 use std::test::Fail;
@@ -276,7 +276,7 @@ fn test(mask: u64) -> Cite {
 
 // With 2 at position 0 each value at 1 makes 2 4 or 3 4 fail.
 fn row() -> Row {
-    let mut cites = [Cite::Nothing; 8];
+    let mut cites = [Cite::Nothing; ROW_CITES];
     cites[0] = test(0b10100);
     cites[1] = test(0b11000);
     Row {

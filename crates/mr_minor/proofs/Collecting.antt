@@ -4,6 +4,7 @@ use Rattle.std.specs.Prelude.{Contains, IsTrue, if◌then◌else◌}
 use Rattle.std.specs.List.Sorted.{IsStrictlySortedBy}
 use Rattle.std.proofs.lemmas.Cmp.{nat_list_cmp_total}
 use Rattle.std.proofs.lemmas.List.Elements.{Contains-append_left, Contains-push, Contains-push_cases}
+use Rattle.mr_set.specs.declared.TheConstants.{ELEMENTS}
 use Rattle.mr_set.specs.Subsets.{IsSetOf, IsBefore, IsFirst, IsNext, IsLast, list_cmp}
 use Rattle.mr_set.proofs.Ordered.{member_none, member_cases, sorted_join}
 use Rattle.mr_set.specs.Private.Enumeration.{weight}
@@ -105,5 +106,5 @@ walk_last n r k P x sets more b same before is last step =
     subst (AreNonbases n r P) (sym step) (collected-last n r P x (if b then sets else (sets ++ x ∷ [])) before.0 (subst (λ j. IsLast j x) same last) (collected-step n r P x sets b before.0 is before.1))
 
 -- fewer sets are left
-pub walk_falls : (n r k : ℕ) (x y : List ℕ) → k ≡ n → n ≤ 32 → IsSetOf n r x → IsNext k x y → weight y < weight x
+pub walk_falls : (n r k : ℕ) (x y : List ℕ) → k ≡ n → n ≤ ELEMENTS → IsSetOf n r x → IsNext k x y → weight y < weight x
 walk_falls n r k x y same limit set next = next_falls n r x y limit set (subst (λ j. IsNext j x y) same next)

@@ -11,8 +11,12 @@ mod tests;
 
 pub use following::{fails, follows, follows_steps};
 pub use list::RowList;
+use mr_assign::VALUES;
 pub use packing::{head_of, pack, unpack};
 pub use row::{Cite, Row};
+
+/// The cites of a row, one for each value.
+pub const ROW_CITES: usize = VALUES as usize;
 
 /// The words of a packed row.
 pub const ROW_WORDS: usize = 15;

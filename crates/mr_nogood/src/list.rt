@@ -20,6 +20,7 @@ impl Model for RowList {
 }
 
 impl RowList {
+    /// The empty list. It takes no memory.
     pub fn new(alloc: Global) -> RowList
         ensures { result ≡ [] }
     {
@@ -36,6 +37,7 @@ impl RowList {
         self.items.extend_from_slice(&[item])
     }
 
+    /// The rows, in their order.
     pub fn as_slice(&self) -> &[Row]
         ensures { result.now ≡ self.now }
     {

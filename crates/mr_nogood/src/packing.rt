@@ -6,7 +6,7 @@ ghost use Rattle.mr_nogood.specs.Packing.{cite_word, head_of, row_packing};
 ghost use Rattle.mr_nogood.specs.Unpacking.{cite_of, unpacked};
 
 use crate::row::cite_at;
-use crate::{Cite, ROW_WORDS, Row};
+use crate::{Cite, ROW_CITES, ROW_WORDS, Row};
 use mr_assign::{Assign, CLAUSE_WORDS, VALUES};
 use mr_set::Set;
 
@@ -76,8 +76,8 @@ fn read(words: &[u64; ROW_WORDS], clause: Assign) -> Row
     requires { clause ≡ nibbles (slice_range words.now 1 7) }
     ensures { result ≡ unpacked words.now }
 {
-    let mut cites = [Cite::Nothing; 8];
-    for k in 0..8 {
+    let mut cites = [Cite::Nothing; ROW_CITES];
+    for k in 0..ROW_CITES {
         cites[k] = cite_of(words[CITES + k]);
     }
     Row {

@@ -2,6 +2,7 @@ ghost use Rattle.std.specs.Prelude.{◌≡◌, ◌<◌, length};
 ghost use Rattle.mr_assign.specs.declared.TheConstants.{VALUES};
 ghost use Rattle.mr_nogood.specs.Row.{cite_for};
 
+use crate::ROW_CITES;
 use mr_assign::Assign;
 use mr_set::Set;
 
@@ -20,7 +21,7 @@ pub struct Row {
     pub rank: u32,
     pub at: u8,
     pub clause: Assign,
-    pub cites: [Cite; 8],
+    pub cites: [Cite; ROW_CITES],
 }
 
 /// The cite for the value k + 1.

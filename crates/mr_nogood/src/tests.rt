@@ -1,4 +1,4 @@
-use crate::{Cite, ROW_WORDS, Row, RowList, follows, follows_steps, pack, unpack};
+use crate::{Cite, ROW_CITES, ROW_WORDS, Row, RowList, follows, follows_steps, pack, unpack};
 use mr_assign::Assign;
 use mr_field::Field;
 use mr_frame::Frame;
@@ -17,7 +17,7 @@ fn fano(alloc: Global) -> Result<Frame, Fail> {
 
 // A row with cites for the values 1 and 2.
 fn row(rank: u32, at: u8, clause: Assign, one: Cite, two: Cite) -> Row {
-    let mut cites = [Cite::Nothing; 8];
+    let mut cites = [Cite::Nothing; ROW_CITES];
     cites[0] = one;
     cites[1] = two;
     Row {
@@ -164,7 +164,7 @@ fn a_row_comes_back_from_its_words(rt: HostRuntime) -> Result<(), Fail> {
         assert!(rt; unpack(&pack(step)) == Some(*step));
     }
     let last = Cite::Slot(u32::MAX);
-    let cites = [last; 8];
+    let cites = [last; ROW_CITES];
     let clause = Assign::empty().with(95, 8);
     let most = Row {
         rank: u32::MAX,
