@@ -32,7 +32,7 @@ in_meet : (x y : List ℕ) (v : ℕ) → is_element (meet x y) v ≡ (is_element
 in_meet x y v = is_element-filter (is_element y) x v
 
 -- the elements of the first alone
-in_minus : (x y : List ℕ) (v : ℕ) → is_element (minus x y) v ≡ (not (is_element y v) && is_element x v)
+pub in_minus : (x y : List ℕ) (v : ℕ) → is_element (minus x y) v ≡ (not (is_element y v) && is_element x v)
 in_minus x y v = is_element-filter (λ e. not (is_element y e)) x v
 
 -- what is in the first set and not in the other
@@ -222,6 +222,26 @@ open_place f frame x columns p place here needs same =
         (λ (t : is_element ys e ≡ true). absurd (never (Contains-from_element ys e t)))
         (λ (o : is_element ys e ≡ false). o)
         (cases_Bool (is_element ys e))
+
+-- so the place lies in the matrix, and its column is one of the part
+pub place_inside : (f : Framed) (frame : IsFrame f) (x columns : List ℕ) (p : ℕ) (place : Edge) (r n : ℕ) → slice_get f.places p ≡ Some place → Needs f x p → columns ≡ minus x f.basis →
+    r ≡ f.matroid.rank → n ≡ f.matroid.elements → (place.row < r) × (place.col < n) × Contains columns place.col
+place_inside f frame x columns p place r n here needs same rank count =
+    let at = open_place f frame x columns p place here needs same in
+    (rw rank at.0.row, rw count at.0.element, at.1)
+
+-- its row is one of the part
+pub row_inside : (f : Framed) (frame : IsFrame f) (x rows : List ℕ) (p : ℕ) (place : Edge) → slice_get f.places p ≡ Some place → Needs f x p → AreRows f.basis x rows → Contains rows place.row
+row_inside f frame x rows p place here needs are =
+    let edge : IsExchange f.matroid f.basis place.row place.col = place_exchange f frame place.row place.col (HasEdge-slice_get f.places p place here) in
+    (are place.row).1 ((let size = frame.basis.basis.0.size in let row = edge.row in omega arith), ((needs_at f x p place here).0 needs).1)
+
+-- and the basis's element of the row is a column of the matrix outside of the part
+pub spare_outside : (f : Framed) (frame : IsFrame f) (x columns : List ℕ) (p : ℕ) (place : Edge) (spare n : ℕ) → slice_get f.places p ≡ Some place → Needs f x p → columns ≡ minus x f.basis →
+    spare ≡ get_or f.basis place.row 0 → n ≡ f.matroid.elements → (spare < n) × ¬ (Contains columns spare)
+spare_outside f frame x columns p place spare n here needs same is count =
+    let at = open_place f frame x columns p place here needs same in
+    (rw (is, count) at.3, λ h. at.2 (subst (Contains columns) is h))
 
 -- the values for which columns are dependent
 abbrev AreDependentAt : List ℕ → List ℕ → Entries → Edge → Gf → ℕ → ℕ → List ℕ → Type 0

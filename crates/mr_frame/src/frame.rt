@@ -2,6 +2,7 @@ ghost use Rattle.std.specs.Prelude.{◌≡◌, ◌≢◌, ◌↔◌, ◌<◌, �
 ghost use Rattle.std.specs.List.Sorted.{IsPermutation, IsStrictlySortedBy};
 ghost use Rattle.mr_field.specs.Gf.{Gf, order};
 ghost use Rattle.mr_set.specs.declared.TheConstants.{ELEMENTS};
+ghost use Rattle.mr_set.specs.Elements.{numbers_below, without_element};
 ghost use Rattle.mr_set.specs.Subsets.{IsSetOf, list_cmp};
 ghost use Rattle.mr_assign.specs.declared.TheConstants.{POSITIONS};
 ghost use Rattle.mr_linear.specs.Stored.{cell, InField};
@@ -25,7 +26,7 @@ use crate::{Cell, Verdict};
 use mr_assign::{Assign, POSITIONS};
 use mr_field::Field;
 use mr_graph::{Edge, EdgeList};
-use mr_linear::{CELLS, Matrix, STRIDE, dependent_values, independent_part};
+use mr_linear::{CELLS, Matrix, STRIDE, dependent_values, independent_part, part_values};
 use mr_matroid::Matroid;
 use mr_set::{ELEMENTS, Set, elements, first_subset, next_subset};
 use std::alloc::{AllocError, Global};
@@ -91,12 +92,14 @@ impl Frame {
         })
     }
 
+    /// The matroid that it is the frame of.
     pub fn matroid(&self) -> &Matroid
         ensures { result.now ≡ self.now.matroid }
     {
         &self.matroid
     }
 
+    /// The field that the matroid is to be represented over.
     pub fn field(&self) -> Field
         ensures { result ≡ self.now.field }
     {
@@ -231,13 +234,21 @@ impl Frame {
         requires earlier { (q : ℕ) → q < p → slice_index a.now q ≢ 0 }
         ensures { (v : ℕ) → v < order self.now.field → MatchOption (slice_index_or result v None) (NoneFailsLast self.now (slice_set a.now p v) p) (IsFirstFailingLast self.now (slice_set a.now p v) p) }
     {
+        // The clauses of `words` say how many positions there are.
+        let _positions = a.words();
         let full = self.outside(a);
         let place = self.place(p);
         let spare = elements(self.basis)[place.row as usize];
         let mut copy = full;
         let mut first = [None; WIDTH];
+        let mut open = nonzero(&self.field);
         for part in self.parts[p as usize].as_slice() {
+            // Each value has its set where none is open.
+            let Some(_) = open.first() else {
+                return first;
+            };
             let failing = self.failing_part(part, p, place, spare, a, &full, &mut copy);
+            open = open.minus(failing);
             mark(&mut first, failing, part.set);
         }
         first
@@ -398,9 +409,9 @@ impl Frame {
     {
         // The clauses of `words` say how many positions there are.
         let _positions = a.words();
-        copy_rows(full, copy, self.matroid.rank());
-        let dependent = dependent_values(
+        let dependent = part_values(
             &self.field,
+            full,
             copy,
             self.matroid.rank(),
             self.matroid.elements(),
@@ -503,23 +514,19 @@ impl Frame {
     }
 }
 
-// Copies the first rows.
-fn copy_rows(full: &[u8; CELLS], copy: &mut [u8; CELLS], rows: u32)
-    requires { rows ≤ ELEMENTS }
-    ensures same { (i j : ℕ) → i < rows → j < STRIDE → cell copy.new i j ≡ cell full.now i j }
-    ensures elements { (f : Gf) → InField f full.now → InField f copy.old → InField f copy.new }
+// The elements but 0.
+fn nonzero(field: &Field) -> Set
+    ensures { result ≡ without_element 0 (numbers_below (order field.now)) }
 {
-    for k in 0..rows as usize * STRIDE {
-        copy[k] = full[k];
-    }
+    let q = field.order() as u32;
+    first_subset(q, q).without(0)
 }
 
 // The values but 0 that are in a set just where the flag says so.
 fn values_where(field: &Field, flag: bool, values: Set) -> Set
     ensures { (v : ℕ) → Contains result v ↔ ((0 < v) × (v < order field.now) × (IsTrue flag ↔ Contains values v)) }
 {
-    let q = field.order() as u32;
-    let all = first_subset(q, q).without(0);
+    let all = nonzero(field);
     if flag {
         all.meet(values)
     } else {

@@ -2,3 +2,4 @@
 pub mod Elimination
 pub mod Stored
 pub mod Reduction
+pub mod Small

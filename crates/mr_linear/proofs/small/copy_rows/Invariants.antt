@@ -2,7 +2,7 @@
 use Rattle.std.proofs.Common.{ℕ, ◌≡◌, ◌<◌, get_or, length}
 use Rattle.mr_field.specs.Gf.{Gf}
 use Rattle.mr_linear.specs.Stored.{InField}
-use Rattle.mr_frame.proofs.frame.copy_rows.Given as goal
+use Rattle.mr_linear.proofs.small.copy_rows.Given as goal
 
 abbrev pub invariant-loop-k : goal.invariant-loop-k
 invariant-loop-k l = record {

@@ -2,7 +2,7 @@
 use Rattle.std.proofs.Common.{◌≡◌, ◌≢◌, ◌<◌, ◌+◌, ◌*◌, ◌∙◌, get_or, length, length-set, get_or-set_same, get_or-set_other, arith, ⊎_elim}
 use Rattle.std.proofs.lemmas.Bool.{cases_eq}
 use Rattle.mr_linear.proofs.Working.{InField-set}
-use Rattle.mr_frame.proofs.frame.copy_rows.Goals as goal
+use Rattle.mr_linear.proofs.small.copy_rows.Goals as goal
 
 pub loop-k-preserved : goal.loop-k-preserved
 loop-k-preserved c =
@@ -25,3 +25,9 @@ returns-clause-same c = λ i j il jl. c.loop-k.invariant.same (i * 32 + j) (omeg
 
 pub returns-clause-elements : goal.returns-clause-elements
 returns-clause-elements c = c.loop-k.invariant.elements
+
+pub returns-clause-size : goal.returns-clause-size
+returns-clause-size c =
+    let size = c.loop-k.invariant.len in
+    let was = c.requires.1 in
+    omega arith
