@@ -29,6 +29,7 @@ impl Model for AnswerList {
 }
 
 impl AnswerList {
+    /// The empty list. It takes no memory.
     pub fn new(alloc: Global) -> AnswerList
         ensures { result ≡ [] }
     {
@@ -47,6 +48,7 @@ impl AnswerList {
         Ok(())
     }
 
+    /// The answers, in their order.
     pub fn as_slice(&self) -> &[CubeAnswer]
         ensures { result.now ≡ self.now }
     {
@@ -70,6 +72,7 @@ impl Model for SlotList {
 }
 
 impl SlotList {
+    /// The list of no slot. It takes no memory.
     pub fn new(alloc: Global) -> SlotList
         ensures { result ≡ [] }
     {
@@ -125,6 +128,7 @@ impl SlotList {
         self.items.extend_from_slice(&[item])
     }
 
+    /// The slots, in their order, each with its row if it has one.
     pub fn as_slice(&self) -> &[Option<Row>]
         ensures { result.now ≡ self.now }
     {

@@ -3,15 +3,15 @@ ghost use Rattle.std.specs.Bool.{OnTrue};
 ghost use Rattle.mr_exchange.specs.declared.TheConstants.{LOOKS, NODES};
 ghost use Rattle.mr_exchange.specs.Cubes.{IsProblemOf};
 ghost use Rattle.mr_exchange.specs.Board.{new_holding};
+ghost use Rattle.mr_exchange.specs.Plain.{plain_holding};
 ghost use Rattle.mr_exchange.specs.Private.Trial.{KnowsNone, KnowsOne, LookedOn};
 
 use crate::tests::{fano, row};
-use crate::{AnswerList, Board, CubeAnswer, LOOKS, Look, PlainBoard, Problem, SlotList};
+use crate::{AnswerList, Board, Closed, CubeAnswer, LOOKS, Look, PlainBoard, Problem, SlotList};
 use mr_assign::{Assign, AssignList};
 use mr_frame::Frame;
 use mr_nogood::{Cite, Row, follows};
 use std::alloc::Global;
-use std::test::Fail;
 
 // The problem of splitting one position.
 fn split_once(frame: &Frame, nodes: u32) -> Option<Problem>
@@ -142,57 +142,116 @@ fn plays<B: Board>(board: &mut B, row: &Row) -> bool
     opens_again(board, row)
 }
 
-#[test]
-fn a_plain_board_answers_as_its_pass(rt: HostRuntime) -> Result<(), Fail> {
-    let fano = fano(rt.alloc())?;
-    let problem = split_once(&fano, 10).ok_or("a free position")?;
-    let mut board = PlainBoard::new(rt.alloc(), &fano, problem)?;
-    assert!(rt; plays(&mut board, &row()));
+// Whether the pass claims the cube 1 and then none.
+fn claims_the_rest(board: &mut PlainBoard<'_>) -> bool
+    requires { (plain_holding board.old).claim_ends ≡ 0 }
+{
     match board.claim() {
-        Some(cube) => assert_eq!(rt; cube, 1),
-        None => return Err("a second cube".into()),
+        Some(1) => board.claim().is_none(),
+        _ => false,
     }
-    assert!(rt; board.claim().is_none());
-    let closed = board.close();
-    assert_eq!(rt; closed.opened(), 2);
-    assert_eq!(rt; closed.claimed(), 2);
-    assert!(rt; closed.row(0) == Some(row()));
-    assert!(rt; closed.row(1).is_none());
-    assert!(rt; closed.row(10).is_none());
-    Ok(())
 }
 
-// The answers that cube 0 has the map with 1 at position 0 and cube 1 is refuted by slot 3.
-fn answers(alloc: Global) -> Result<AnswerList, Fail> {
-    let mut found = AssignList::new(alloc);
-    found.push(Assign::empty().with(0, 1))?;
-    let mut answers = AnswerList::new(alloc);
-    answers.push(CubeAnswer::Found(found))?;
-    answers.push(CubeAnswer::Refuted(Cite::Slot(3)))?;
-    Ok(answers)
+// What a board shows whose pass plays and claims as it should.
+fn played(alloc: Global, frame: &Frame) -> Option<Closed> {
+    let problem = split_once(frame, 10)?;
+    let mut board = PlainBoard::new(alloc, frame, problem).ok()?;
+    if !plays(&mut board, &row()) {
+        return None;
+    }
+    if !claims_the_rest(&mut board) {
+        return None;
+    }
+    Some(board.close())
+}
+
+// Whether two nodes were opened and two cubes claimed, and the row stands in the slot 0 and none in the others up to 10.
+fn is_closed(closed: &Closed) -> bool {
+    for slot in 1..11 {
+        if closed.row(slot).is_some() {
+            return false;
+        }
+    }
+    closed.opened() == 2 && closed.claimed() == 2 && closed.row(0) == Some(row())
 }
 
 fn moved<T: Send + Sync>(value: T) -> T {
     value
 }
 
+// Whether that is so once the closed board has crossed to another thread.
+fn is_closed_on(alloc: Global, frame: &Frame) -> Option<bool> {
+    let closed = moved(played(alloc, frame)?);
+    Some(is_closed(&closed))
+}
+
+// The same on the plane.
+fn is_closed_elsewhere(alloc: Global) -> Option<bool> {
+    let fano = fano(alloc)?;
+    is_closed_on(alloc, &fano)
+}
+
 #[test]
-fn lists_keep_their_order_and_may_cross_threads(rt: HostRuntime) -> Result<(), Fail> {
-    let answers = moved(answers(rt.alloc())?);
-    match answers.as_slice() {
+fn a_plain_board_answers_as_its_pass_and_may_cross_threads_once_closed(rt: HostRuntime) {
+    assert!(rt; is_closed_elsewhere(rt.alloc()) == Some(true));
+}
+
+// The list of the map with 1 at position 0.
+fn found(alloc: Global) -> Option<AssignList> {
+    let mut found = AssignList::new(alloc);
+    found.push(Assign::empty().with(0, 1)).ok()?;
+    Some(found)
+}
+
+// The answers that cube 0 has the map with 1 at position 0 and cube 1 is refuted by slot 3.
+fn answers(alloc: Global) -> Option<AnswerList> {
+    let found = found(alloc)?;
+    let mut answers = AnswerList::new(alloc);
+    answers.push(CubeAnswer::Found(found)).ok()?;
+    answers.push(CubeAnswer::Refuted(Cite::Slot(3))).ok()?;
+    Some(answers)
+}
+
+// Whether these are the two answers.
+fn are_two_answers(answers: &[CubeAnswer]) -> bool {
+    match answers {
         [CubeAnswer::Found(found), CubeAnswer::Refuted(cite)] => {
-            assert_eq!(rt; found.as_slice().len(), 1);
-            assert!(rt; *cite == Cite::Slot(3));
+            found.as_slice().len() == 1 && *cite == Cite::Slot(3)
         }
-        _ => return Err("two answers".into()),
+        _ => false,
     }
-    let mut slots = SlotList::new(rt.alloc());
-    slots.push(None)?;
-    slots.push(Some(row()))?;
-    let slots = moved(slots);
-    match slots.as_slice() {
-        [None, Some(found)] => assert!(rt; *found == row()),
-        _ => return Err("two slots".into()),
+}
+
+// Whether they are, once they have crossed to another thread.
+fn are_answers_elsewhere(alloc: Global) -> Option<bool> {
+    let answers = moved(answers(alloc)?);
+    Some(are_two_answers(answers.as_slice()))
+}
+
+// A slot without a row, and one with it.
+fn slots(alloc: Global) -> Option<SlotList> {
+    let mut slots = SlotList::new(alloc);
+    slots.push(None).ok()?;
+    slots.push(Some(row())).ok()?;
+    Some(slots)
+}
+
+// Whether these are the two slots.
+fn are_two_slots(slots: &[Option<Row>]) -> bool {
+    match slots {
+        [None, Some(found)] => *found == row(),
+        _ => false,
     }
-    Ok(())
+}
+
+// Whether they are, once they have crossed to another thread.
+fn are_slots_elsewhere(alloc: Global) -> Option<bool> {
+    let slots = moved(slots(alloc)?);
+    Some(are_two_slots(slots.as_slice()))
+}
+
+#[test]
+fn lists_keep_their_order_and_may_cross_threads(rt: HostRuntime) {
+    assert!(rt; are_answers_elsewhere(rt.alloc()) == Some(true));
+    assert!(rt; are_slots_elsewhere(rt.alloc()) == Some(true));
 }

@@ -147,8 +147,9 @@ impl<'f> Board for PlainBoard<'f> {
         self.looks = one_more_look(self.looks, self.problem.nodes);
         self.cursor = next_slot(slot, latest);
         let found = self.rows.row(slot);
-        self.last_head = head_at(found);
-        seen(slot, found)
+        let head = head_at(found);
+        self.last_head = head;
+        seen(slot, found, head)
     }
 
     fn publish(&mut self, slot: u32, row: &Row) {
@@ -184,13 +185,16 @@ fn head_at(found: Option<&Row>) -> u64
     }
 }
 
-// What a look at a slot shows.
-fn seen(slot: u32, found: Option<&Row>) -> Look
+// What a look at a slot with this head shows. The head has the number of pairs, so they aren't counted again.
+fn seen(slot: u32, found: Option<&Row>, head: u64) -> Look
+    requires head { head ≡ head_at (option_copied found) }
+    requires row { IfSome (option_copied found) (λ row. (row.rank < 2 ^ 32) × (row.at < 2 ^ 8)) }
     ensures { result ≡ seen slot (option_copied found.entry) }
 {
     match found {
         Some(row) => {
-            if row.clause.count() <= SHORT {
+            let pairs = (head - (1 << 63)) / (1 << 40);
+            if pairs <= u64::from(SHORT) {
                 Look::Short(slot, *row)
             } else {
                 Look::Long

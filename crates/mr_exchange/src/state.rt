@@ -107,6 +107,7 @@ impl State {
         }
     }
 
+    /// The problem. The state is sound.
     pub fn problem(&self) -> Problem
         ensures value { result ≡ self.now.problem }
         ensures problem { IsProblemOf self.now.frame result }

@@ -1,8 +1,8 @@
 -- There is a number of nodes: each is one of finitely many maps, of which it is told whether a set fails under them.
-use Rattle.std.proofs.Common.{◌≡◌, ◌≢◌, ℕ, ◌+◌, ◌-◌, ◌^◌, ◌<◌, ◌≤◌, ◌⊎◌, true, false, List, [], ◌∷◌, ◌++◌, length, length-append, map, drop, get_or, refl, sym, ap, subst, ◌∙◌, ⊎_elim, inl, inr, arith}
-use Rattle.std.specs.Prelude.{AllPairs, Contains, flat_map, sum_by, nat_eq}
-use Rattle.std.proofs.lemmas.Bool.{cases_lt, cases_eq}
-use Rattle.std.proofs.lemmas.List.{length-map, length-drop, get_or-map, get_or-drop}
+use Rattle.std.proofs.Common.{◌≡◌, ◌≢◌, ℕ, ◌+◌, ◌-◌, ◌^◌, ◌<◌, ◌≤◌, ◌⊎◌, List, [], ◌∷◌, length, map, refl, sym, subst, ◌∙◌, ⊎_elim, inl, inr, arith}
+use Rattle.std.specs.Prelude.{AllPairs, Contains, flat_map, sum_by}
+use Rattle.std.proofs.lemmas.Bool.{cases_lt}
+use Rattle.std.proofs.lemmas.List.{length-map}
 use Rattle.std.proofs.lemmas.List.Concat.{flat_map-cons, length-flat_map}
 use Rattle.std.proofs.lemmas.List.Elements.{Contains-append_left, Contains-append_right, Contains-append_cases}
 use Rattle.std.proofs.lemmas.List.Sums.{sum_by-cons}
@@ -18,7 +18,7 @@ use Rattle.mr_exchange.specs.Cubes.{IsCube, cube_at, cube_count}
 use Rattle.mr_exchange.proofs.OnePass.{length-numbers_below}
 use Rattle.mr_exchange.proofs.CubesInOrder.{cubes_are_in_order}
 use Rattle.mr_search.specs.Laws.{ThereIsANeed, NeedIsAtMostEnough}
-use Rattle.mr_search.specs.Nodes.{IsNode, HoldsOfMany, IsNumberOf, IsNeed, enough}
+use Rattle.mr_search.specs.Nodes.{IsNode, IsNumberOf, IsNeed, enough}
 use Rattle.mr_search.proofs.Children.{part_none, empty_value}
 use Rattle.mr_search.proofs.Distinct.{no_longer}
 use Rattle.mr_search.proofs.Listing.{pairs_one, pairs_append}

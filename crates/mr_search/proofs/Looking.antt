@@ -1,5 +1,6 @@
 -- Looks: what a pass keeps, how many were made, and what the index learns.
-use Rattle.std.proofs.Common.{◌≡◌, ℕ, ◌+◌, ◌*◌, if◌then◌else◌, List, [], ◌∷◌, length, length-append, refl, sym, ap, ◌∙◌, arith, Option, Some}
+use Rattle.std.proofs.Common.{◌≡◌, ℕ, ◌+◌, ◌*◌, if◌then◌else◌, List, [], ◌∷◌, length, length-append, refl, sym, ap, subst, ◌∙◌, arith, Option, Some, Bool, true, false, true≢false}
+use Rattle.std.specs.Prelude.{◌||◌}
 use Rattle.mr_nogood.specs.Follows.{in_slots}
 use Rattle.mr_nogood.specs.declared.row.Row.{Row}
 use Rattle.mr_exchange.specs.declared.TheConstants.{LOOKS}
@@ -14,6 +15,19 @@ use Rattle.mr_search.proofs.Keeping.{keeps_both, keeps_opened, new_own}
 -- the row is learnt
 pub learnt_row : (h after : Holding) (index more : List (Option Row)) (slot : ℕ) (row : Row) → SeesShort h slot row after → Learnt index h → ((s : ℕ) → in_slots more s ≡ with_row (in_slots index) slot row s) → Learnt more after
 learnt_row h after index more slot row moves learnt learns s = learns s ∙ eq_cases s slot (λ b. (if b then Some row else in_slots index s) ≡ (if b then Some row else h.known s)) (λ e. refl) (λ n. learnt s) ∙ sym (ap (λ (g : Holding). g.known s) moves.is)
+
+-- so it is where the index has it already
+pub learnt_already : (h after : Holding) (index : List (Option Row)) (slot : ℕ) (row : Row) → SeesShort h slot row after → Learnt index h → (other : Row) × (in_slots index slot ≡ Some other) → Learnt index after
+learnt_already h after index slot row moves learnt (other, is) =
+    let same : other ≡ row = moves.there.same other (subst (λ (k : ℕ). h.known k ≡ Some other) moves.place (sym (learnt slot) ∙ is)) in
+    learnt_row h after index index slot row moves learnt
+    (λ s. eq_cases s slot (λ b. in_slots index s ≡ (if b then Some row else in_slots index s)) (λ e. ap (in_slots index) e ∙ is ∙ ap Some same) (λ n. refl))
+
+-- where one of two is not so neither is
+pub neither : (a b : Bool) → (a || b) ≡ false → (a ≡ false) × (b ≡ false)
+neither false false none = (refl, refl)
+neither false true none = absurd (true≢false none)
+neither true b none = absurd (true≢false none)
 
 -- some looks and one more
 pub more_looks : (n m k : ℕ) (a b c : Holding) → k ≡ n + m → GoesOn n a b → GoesOn m b c → GoesOn k a c

@@ -12,13 +12,19 @@ ghost use Rattle.mr_search.specs.Private.Citing.{AreCites, Uses, HasValueAt, IsU
 
 use mr_assign::Assign;
 use mr_frame::Frame;
-use mr_nogood::{Cite, Row};
+use mr_nogood::{Cite, ROW_CITES, Row};
 use mr_propagate::Index;
 use mr_set::{Set, elements};
 
 /// The row of a node that gives values to just the positions below p, where each value at p has a cite. Its clause has the
 /// pairs of the node that the cites rest on.
-pub(crate) fn deduced(frame: &Frame, index: &Index, node: &Assign, p: u32, cites: [Cite; 8]) -> Row
+pub(crate) fn deduced(
+    frame: &Frame,
+    index: &Index,
+    node: &Assign,
+    p: u32,
+    cites: [Cite; ROW_CITES],
+) -> Row
     requires ranks { (s : ℕ) (row : RowIs) → in_slots index.now s ≡ Some row → row.rank < NODES }
     requires node { IsCube frame.now p node.now }
     requires position { p < length frame.now.places }
@@ -42,7 +48,13 @@ pub(crate) fn deduced(frame: &Frame, index: &Index, node: &Assign, p: u32, cites
 }
 
 // The pairs of the node that the cites rest on.
-fn clause_of(frame: &Frame, index: &Index, node: &Assign, p: u32, cites: &[Cite; 8]) -> Assign
+fn clause_of(
+    frame: &Frame,
+    index: &Index,
+    node: &Assign,
+    p: u32,
+    cites: &[Cite; ROW_CITES],
+) -> Assign
     requires node { IsCube frame.now p node.now }
     requires position { p < length frame.now.places }
     ensures inside { IsPartOf result node.now }
@@ -63,7 +75,7 @@ fn clause_of(frame: &Frame, index: &Index, node: &Assign, p: u32, cites: &[Cite;
 }
 
 // Whether one of the cites rests on the value at a position.
-fn is_used(frame: &Frame, basis: &[u32], index: &Index, cites: &[Cite; 8], q: u32) -> bool
+fn is_used(frame: &Frame, basis: &[u32], index: &Index, cites: &[Cite; ROW_CITES], q: u32) -> bool
     requires frame { IsFrame frame.now }
     requires basis { basis.now ≡ frame.now.basis }
     requires position { q < length frame.now.places }
@@ -117,7 +129,7 @@ fn has_value_at(index: &Index, s: u32, q: u32) -> bool
 }
 
 // The least number above the ranks of the rows that are cited.
-fn rank_above(index: &Index, cites: &[Cite; 8]) -> u32
+fn rank_above(index: &Index, cites: &[Cite; ROW_CITES]) -> u32
     requires { (s : ℕ) (row : RowIs) → in_slots index.now s ≡ Some row → row.rank < NODES }
     ensures least { IsLeastAboveCites (in_slots index.now) cites.now result }
 {

@@ -1,7 +1,9 @@
-ghost use Rattle.std.specs.Prelude.{◌≡◌, ◌<◌, ◌+◌, IfOk, IfErr, MatchOption, length, slice_set};
+ghost use Rattle.std.specs.Prelude.{◌≡◌, ◌↔◌, ◌<◌, ◌≤◌, ◌+◌, ℕ, false, IsNone, IfOk, IfErr, IfSome, MatchOption, length, slice_index, slice_set};
+ghost use Rattle.mr_assign.specs.declared.TheConstants.{POSITIONS};
+ghost use Rattle.mr_nogood.specs.Follows.{in_slots};
 ghost use Rattle.mr_field.specs.Gf.{order};
 ghost use Rattle.mr_exchange.specs.Board.{Holding};
-ghost use Rattle.mr_propagate.specs.Index.{NoneFailsAt, IsFirstFailingAt};
+ghost use Rattle.mr_propagate.specs.Index.{NoneFailsAt, IsFirstFailingAt, NothingInside, IsLeastInside};
 ghost use Rattle.mr_search.specs.Private.Steps.{CanSearch, Answered, Stopped, IsStep, AreValues};
 
 use crate::SearchStop;
@@ -10,7 +12,7 @@ use crate::outcome::{Outcome, Step, Values};
 use crate::publishing::publish;
 use mr_assign::{Assign, AssignList};
 use mr_exchange::Board;
-use mr_nogood::Cite;
+use mr_nogood::{Cite, ROW_CITES};
 use mr_propagate::{Index, first_failing_values};
 use mr_set::Set;
 
@@ -29,8 +31,8 @@ pub(crate) fn search_node<B: Board>(
     ensures stop { let h = B.holding board.old in IfErr result (Stopped h.frame h (B.holding board.new) node.now p) }
     ensures mark { B.mark board.new ≡ B.mark board.old }
 {
-    let ticket = open(board, index, node, p)?;
-    match index.inside_below(node, p) {
+    let opening = open(board, index, node, p)?;
+    match inside_now(index, node, p, opening.learnt) {
         Some(slot) => return Ok(Outcome::Excluded(Cite::Slot(slot))),
         None => {}
     }
@@ -42,6 +44,7 @@ pub(crate) fn search_node<B: Board>(
         Values::Completed => Ok(Outcome::Completed),
         Values::Inside(slot) => Ok(Outcome::Excluded(Cite::Slot(slot))),
         Values::Excluded(cites) => {
+            let ticket = opening.ticket;
             publish(board, index, node, p, ticket, cites)?;
             Ok(Outcome::Excluded(Cite::Slot(ticket)))
         }
@@ -64,7 +67,7 @@ fn search_values<B: Board>(
     ensures mark { B.mark board.new ≡ B.mark board.old }
 {
     let start = found.as_slice().len();
-    let mut cites = [Cite::Nothing; 8];
+    let mut cites = [Cite::Nothing; ROW_CITES];
     let first = first_failing_values(board.frame(), node, p);
     for v in 1..board.frame().field().order() {
         match search_value(board, index, node, p, v, first[v as usize], found)? {
@@ -115,4 +118,19 @@ fn search_value<B: Board>(
             None => Ok(Step::Excluded(cite)),
         },
     }
+}
+
+// The least slot with a row whose clause is in a node that gives values to just the positions below p. Where nothing was
+// learnt since there was none, there is none.
+fn inside_now(index: &Index, node: &Assign, p: u32, learnt: bool) -> Option<u32>
+    requires position { p ≤ POSITIONS }
+    requires last { (q : ℕ) → p ≤ q → slice_index node.now q ≡ 0 }
+    requires nothing { learnt ≡ false → NothingInside (in_slots index.now) node.now }
+    ensures none { IsNone result ↔ NothingInside (in_slots index.now) node.now }
+    ensures some { IfSome result (IsLeastInside (in_slots index.now) node.now) }
+{
+    if !learnt {
+        return None;
+    }
+    index.inside_below(node, p)
 }

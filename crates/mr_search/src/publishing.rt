@@ -8,7 +8,7 @@ ghost use Rattle.mr_search.specs.Private.Citing.{AreCites, Publishes};
 use crate::deducing::deduced;
 use mr_assign::Assign;
 use mr_exchange::Board;
-use mr_nogood::Cite;
+use mr_nogood::{Cite, ROW_CITES};
 use mr_propagate::Index;
 use std::alloc::AllocError;
 
@@ -19,7 +19,7 @@ pub(crate) fn publish<B: Board>(
     node: &Assign,
     p: u32,
     ticket: u32,
-    cites: [Cite; 8],
+    cites: [Cite; ROW_CITES],
 ) -> Result<(), AllocError>
     requires stands { Stands (B.holding board.old) index.old }
     requires own { Contains (slots_of (B.holding board.old).tickets) ticket }

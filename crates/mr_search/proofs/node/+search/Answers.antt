@@ -10,8 +10,8 @@ use Rattle.mr_nogood.specs.declared.row.Cite.{Cite}
 use Rattle.mr_nogood.specs.declared.row.Cite.TheVariants.{Nothing}
 use Rattle.mr_frame.specs.Test.{IsAssignmentOf}
 use Rattle.mr_exchange.proofs.CubesInOrder.{few_elements}
-use Rattle.std.specs.Prelude.{MatchOption, Option, None, slice_set}
-use Rattle.mr_propagate.specs.Index.{IsExcludedBy, IsOpenAt, NoneFailsAt, IsFirstFailingAt}
+use Rattle.std.specs.Prelude.{MatchOption, Option, None}
+use Rattle.mr_propagate.specs.Index.{NothingInside, IsExcludedBy, IsOpenAt, NoneFailsAt, IsFirstFailingAt}
 use Rattle.mr_search.specs.declared.outcome.Outcome.TheVariants.{Completed, Excluded}
 use Rattle.mr_search.specs.Private.Steps.{Answered, Stopped, Through}
 use Rattle.mr_search.proofs.Answering.{answers_inside, answers_full, answers_by_values, stops_by_values, stops_opened, tried_own, tried_unknown, tried_values, tried_place, tried_cites, answers_published, stops_published}
@@ -24,54 +24,58 @@ use Rattle.mr_search.proofs.node.+search.Goals.{search_values-in-Completed, sear
 pub search_node-open-requires : goal.search_node-open-requires
 search_node-open-requires g t c = c.requires
 
-pub search_node-inside_below-requires-clause-position : goal.search_node-inside_below-requires-clause-position
-search_node-inside_below-requires-clause-position g t c = cube_within (g.B.Board.holding c.args.board.now) c.args.index.now c.args.node.now c.args.p c.requires
+pub search_node-inside_now-requires-clause-position : goal.search_node-inside_now-requires-clause-position
+search_node-inside_now-requires-clause-position g t c = cube_within (g.B.Board.holding c.args.board.now) c.args.index.now c.args.node.now c.args.p c.requires
 
-pub search_node-inside_below-requires-clause-last : goal.search_node-inside_below-requires-clause-last
-search_node-inside_below-requires-clause-last g t c = none_from c.args.node.now c.args.p c.requires.values.just
+pub search_node-inside_now-requires-clause-last : goal.search_node-inside_now-requires-clause-last
+search_node-inside_now-requires-clause-last g t c = none_from c.args.node.now c.args.p c.requires.values.just
 
-pub search_node-returns-in_err-ticket-clause-ok : goal.search_node-returns-in_err-ticket-clause-ok
-search_node-returns-in_err-ticket-clause-ok g t c = IfOk-from_err _ _ c.from_residual.ensures.0
+pub search_node-inside_now-requires-clause-nothing : goal.search_node-inside_now-requires-clause-nothing
+search_node-inside_now-requires-clause-nothing g t c = λ none. subst (λ xs. NothingInside (in_slots xs) c.args.node.now) (sym (c.in_ok-opening.ensures.same none))
+    (nothing_learnt c.args.index.now (g.B.Board.holding c.args.board.now) c.args.node.now c.requires.stands.ready.learnt c.requires.nothing)
 
-pub search_node-returns-in_err-ticket-clause-stop : goal.search_node-returns-in_err-ticket-clause-stop
-search_node-returns-in_err-ticket-clause-stop g t c = let p = err_from_is_err_and c.from_residual.result c.from_residual.ensures.1 in rw (p.1, p.2) c.in_err-ticket.ensures.stop
+pub search_node-returns-in_err-opening-clause-ok : goal.search_node-returns-in_err-opening-clause-ok
+search_node-returns-in_err-opening-clause-ok g t c = IfOk-from_err _ _ c.from_residual.ensures.0
 
-pub search_node-returns-in_err-ticket-clause-mark : goal.search_node-returns-in_err-ticket-clause-mark
-search_node-returns-in_err-ticket-clause-mark g t c = c.in_err-ticket.ensures.mark
+pub search_node-returns-in_err-opening-clause-stop : goal.search_node-returns-in_err-opening-clause-stop
+search_node-returns-in_err-opening-clause-stop g t c = let p = err_from_is_err_and c.from_residual.result c.from_residual.ensures.1 in rw (p.1, p.2) c.in_err-opening.ensures.stop
+
+pub search_node-returns-in_err-opening-clause-mark : goal.search_node-returns-in_err-opening-clause-mark
+search_node-returns-in_err-opening-clause-mark g t c = c.in_err-opening.ensures.mark
 
 pub search_node-returns-in-Some-clause-ok : goal.search_node-returns-in-Some-clause-ok
 search_node-returns-in-Some-clause-ok g t c =
-    let opens = c.in_ok-ticket.ensures.ok in
-    answers_inside (g.B.Board.holding c.args.board.now) c.args.index.now c.args.node.now c.args.p c.requires (g.B.Board.holding c.open.new.board) c.open.new.index c.in_ok-ticket.ticket opens c.args.found.now c.in-Some.slot
+    let opens = c.in_ok-opening.ensures.ok in
+    answers_inside (g.B.Board.holding c.args.board.now) c.args.index.now c.args.node.now c.args.p c.requires (g.B.Board.holding c.open.new.board) c.open.new.index c.in_ok-opening.opening.ticket opens c.args.found.now c.in-Some.slot
     (inside_known c.open.new.index (g.B.Board.holding c.open.new.board) c.args.node.now c.in-Some.slot opens.stands.ready.learnt c.in-Some.ensures.some)
 
 pub search_node-returns-in-Some-clause-mark : goal.search_node-returns-in-Some-clause-mark
-search_node-returns-in-Some-clause-mark g t c = c.in_ok-ticket.ensures.mark
+search_node-returns-in-Some-clause-mark g t c = c.in_ok-opening.ensures.mark
 
 pub search_node-returns-in_err-push-clause-ok : goal.search_node-returns-in_err-push-clause-ok
 search_node-returns-in_err-push-clause-ok g t c = IfOk-from_err _ _ c.from_residual-in_err-push.ensures.0
 
 pub search_node-returns-in_err-push-clause-stop : goal.search_node-returns-in_err-push-clause-stop
 search_node-returns-in_err-push-clause-stop g t c = let p = err_from_is_err_and c.from_residual-in_err-push.result c.from_residual-in_err-push.ensures.1 in
-    rw (p.1, p.2) (stops_opened (g.B.Board.holding c.args.board.now) c.args.index.now c.args.node.now c.args.p c.requires (g.B.Board.holding c.open.new.board) c.open.new.index c.in_ok-ticket.ticket c.in_ok-ticket.ensures.ok)
+    rw (p.1, p.2) (stops_opened (g.B.Board.holding c.args.board.now) c.args.index.now c.args.node.now c.args.p c.requires (g.B.Board.holding c.open.new.board) c.open.new.index c.in_ok-opening.opening.ticket c.in_ok-opening.ensures.ok)
 
 pub search_node-returns-in_err-push-clause-mark : goal.search_node-returns-in_err-push-clause-mark
-search_node-returns-in_err-push-clause-mark g t c = c.in_ok-ticket.ensures.mark
+search_node-returns-in_err-push-clause-mark g t c = c.in_ok-opening.ensures.mark
 
 pub search_node-returns-then-p-free-clause-ok : goal.search_node-returns-then-p-free-clause-ok
 search_node-returns-then-p-free-clause-ok g t c =
-    let opens = c.in_ok-ticket.ensures.ok in
-    answers_full (g.B.Board.holding c.args.board.now) c.args.index.now c.args.node.now c.args.p c.requires (g.B.Board.holding c.open.new.board) c.open.new.index c.in_ok-ticket.ticket opens c.args.found.now c.push.new.self
+    let opens = c.in_ok-opening.ensures.ok in
+    answers_full (g.B.Board.holding c.args.board.now) c.args.index.now c.args.node.now c.args.p c.requires (g.B.Board.holding c.open.new.board) c.open.new.index c.in_ok-opening.opening.ticket opens c.args.found.now c.push.new.self
     (c.if-p-free.true ∙ c.free.ensures.value ∙ ap (λ (f : Framed). length f.places) (c.frame.ensures.frame ∙ opens.keeps.frame)) c.in_ok-push.ensures.ok
 
 pub search_node-returns-then-p-free-clause-mark : goal.search_node-returns-then-p-free-clause-mark
-search_node-returns-then-p-free-clause-mark g t c = c.in_ok-ticket.ensures.mark
+search_node-returns-then-p-free-clause-mark g t c = c.in_ok-opening.ensures.mark
 
 pub search_node-search_values-requires : goal.search_node-search_values-requires
 search_node-search_values-requires g t c κs within =
     let before = g.B.Board.holding c.args.board.now in
     let mid = g.B.Board.holding c.open.new.board in
-    let can = can_opened before mid c.args.index.now c.open.new.index c.args.node.now c.args.p c.in_ok-ticket.ticket c.requires c.in_ok-ticket.ensures.ok (c.in-None.ensures.none.0 refl) in
+    let can = can_opened before mid c.args.index.now c.open.new.index c.args.node.now c.args.p c.in_ok-opening.opening.ticket c.requires c.in_ok-opening.ensures.ok (c.in-None.ensures.none.0 refl) in
     let free = next_place mid.frame c.args.node.now c.args.p can.values (λ same. c.if-p-free.false (same ∙ ap (λ (f : Framed). length f.places) (sym c.frame.ensures.frame) ∙ sym c.free.ensures.value)) in
     search (rules, can, free)
 
@@ -80,34 +84,34 @@ search_node-returns-in_err-search_values-clause-ok g t c = IfOk-from_err _ _ c.f
 
 pub search_node-returns-in_err-search_values-clause-stop : goal.search_node-returns-in_err-search_values-clause-stop
 search_node-returns-in_err-search_values-clause-stop g t c = let p = err_from_is_err_and c.from_residual-in_err-search_values.result c.from_residual-in_err-search_values.ensures.1 in
-    rw (p.1, p.2) (stops_by_values (g.B.Board.holding c.args.board.now) c.args.index.now c.args.node.now c.args.p c.requires (g.B.Board.holding c.open.new.board) c.open.new.index c.in_ok-ticket.ticket c.in_ok-ticket.ensures.ok
+    rw (p.1, p.2) (stops_by_values (g.B.Board.holding c.args.board.now) c.args.index.now c.args.node.now c.args.p c.requires (g.B.Board.holding c.open.new.board) c.open.new.index c.in_ok-opening.opening.ticket c.in_ok-opening.ensures.ok
     (g.B.Board.holding c.search_values.new.board) _ c.in_err-search_values.ensures.stop)
 
 pub search_node-returns-in_err-search_values-clause-mark : goal.search_node-returns-in_err-search_values-clause-mark
-search_node-returns-in_err-search_values-clause-mark g t c = c.in_err-search_values.ensures.mark ∙ c.in_ok-ticket.ensures.mark
+search_node-returns-in_err-search_values-clause-mark g t c = c.in_err-search_values.ensures.mark ∙ c.in_ok-opening.ensures.mark
 
 pub search_node-publish-requires-clause-stands : goal.search_node-publish-requires-clause-stands
 search_node-publish-requires-clause-stands g t c = let exhausted = rw c.in-Excluded.is at c.in_ok-search_values.ensures.ok in exhausted.through.stands
 
 pub search_node-publish-requires-clause-own : goal.search_node-publish-requires-clause-own
-search_node-publish-requires-clause-own g t c = tried_own (g.B.Board.holding c.args.board.now) c.args.index.now c.args.node.now c.args.p c.requires (g.B.Board.holding c.open.new.board) c.open.new.index c.in_ok-ticket.ticket c.in_ok-ticket.ensures.ok
+search_node-publish-requires-clause-own g t c = tried_own (g.B.Board.holding c.args.board.now) c.args.index.now c.args.node.now c.args.p c.requires (g.B.Board.holding c.open.new.board) c.open.new.index c.in_ok-opening.opening.ticket c.in_ok-opening.ensures.ok
     (g.B.Board.holding c.search_values.new.board) c.search_values.new.index c.args.found.now c.search_values.new.found c.in-Excluded.cites (rw c.in-Excluded.is at c.in_ok-search_values.ensures.ok)
 
 pub search_node-publish-requires-clause-unknown : goal.search_node-publish-requires-clause-unknown
-search_node-publish-requires-clause-unknown g t c = tried_unknown (g.B.Board.holding c.args.board.now) c.args.index.now c.args.node.now c.args.p c.requires (g.B.Board.holding c.open.new.board) c.open.new.index c.in_ok-ticket.ticket c.in_ok-ticket.ensures.ok
+search_node-publish-requires-clause-unknown g t c = tried_unknown (g.B.Board.holding c.args.board.now) c.args.index.now c.args.node.now c.args.p c.requires (g.B.Board.holding c.open.new.board) c.open.new.index c.in_ok-opening.opening.ticket c.in_ok-opening.ensures.ok
     (g.B.Board.holding c.search_values.new.board) c.search_values.new.index c.args.found.now c.search_values.new.found c.in-Excluded.cites (rw c.in-Excluded.is at c.in_ok-search_values.ensures.ok)
 
 pub search_node-publish-requires-clause-node : goal.search_node-publish-requires-clause-node
-search_node-publish-requires-clause-node g t c = tried_values (g.B.Board.holding c.args.board.now) c.args.index.now c.args.node.now c.args.p c.requires (g.B.Board.holding c.open.new.board) c.open.new.index c.in_ok-ticket.ticket c.in_ok-ticket.ensures.ok
+search_node-publish-requires-clause-node g t c = tried_values (g.B.Board.holding c.args.board.now) c.args.index.now c.args.node.now c.args.p c.requires (g.B.Board.holding c.open.new.board) c.open.new.index c.in_ok-opening.opening.ticket c.in_ok-opening.ensures.ok
     (g.B.Board.holding c.search_values.new.board) c.search_values.new.index c.args.found.now c.search_values.new.found c.in-Excluded.cites (rw c.in-Excluded.is at c.in_ok-search_values.ensures.ok)
 
 pub search_node-publish-requires-clause-position : goal.search_node-publish-requires-clause-position
-search_node-publish-requires-clause-position g t c = tried_place (g.B.Board.holding c.args.board.now) c.args.index.now c.args.node.now c.args.p c.requires (g.B.Board.holding c.open.new.board) c.open.new.index c.in_ok-ticket.ticket c.in_ok-ticket.ensures.ok
+search_node-publish-requires-clause-position g t c = tried_place (g.B.Board.holding c.args.board.now) c.args.index.now c.args.node.now c.args.p c.requires (g.B.Board.holding c.open.new.board) c.open.new.index c.in_ok-opening.opening.ticket c.in_ok-opening.ensures.ok
     (g.B.Board.holding c.search_values.new.board) c.search_values.new.index c.args.found.now c.search_values.new.found c.in-Excluded.cites (rw c.in-Excluded.is at c.in_ok-search_values.ensures.ok)
     (λ same. c.if-p-free.false (same ∙ ap (λ (f : Framed). length f.places) (sym c.frame.ensures.frame) ∙ sym c.free.ensures.value))
 
 pub search_node-publish-requires-clause-cites : goal.search_node-publish-requires-clause-cites
-search_node-publish-requires-clause-cites g t c = tried_cites (g.B.Board.holding c.args.board.now) c.args.index.now c.args.node.now c.args.p c.requires (g.B.Board.holding c.open.new.board) c.open.new.index c.in_ok-ticket.ticket c.in_ok-ticket.ensures.ok
+search_node-publish-requires-clause-cites g t c = tried_cites (g.B.Board.holding c.args.board.now) c.args.index.now c.args.node.now c.args.p c.requires (g.B.Board.holding c.open.new.board) c.open.new.index c.in_ok-opening.opening.ticket c.in_ok-opening.ensures.ok
     (g.B.Board.holding c.search_values.new.board) c.search_values.new.index c.args.found.now c.search_values.new.found c.in-Excluded.cites (rw c.in-Excluded.is at c.in_ok-search_values.ensures.ok)
 
 pub search_node-returns-in_err-publish-in-Excluded-clause-ok : goal.search_node-returns-in_err-publish-in-Excluded-clause-ok
@@ -115,32 +119,32 @@ search_node-returns-in_err-publish-in-Excluded-clause-ok g t c = IfOk-from_err _
 
 pub search_node-returns-in_err-publish-in-Excluded-clause-stop : goal.search_node-returns-in_err-publish-in-Excluded-clause-stop
 search_node-returns-in_err-publish-in-Excluded-clause-stop g t c = let p = err_from_is_err_and c.from_residual-in_err-publish-in-Excluded.result c.from_residual-in_err-publish-in-Excluded.ensures.1 in
-    rw (p.1, p.2) (stops_published (g.B.Board.holding c.args.board.now) c.args.index.now c.args.node.now c.args.p c.requires (g.B.Board.holding c.open.new.board) c.open.new.index c.in_ok-ticket.ticket c.in_ok-ticket.ensures.ok
+    rw (p.1, p.2) (stops_published (g.B.Board.holding c.args.board.now) c.args.index.now c.args.node.now c.args.p c.requires (g.B.Board.holding c.open.new.board) c.open.new.index c.in_ok-opening.opening.ticket c.in_ok-opening.ensures.ok
     (g.B.Board.holding c.search_values.new.board) c.search_values.new.index c.args.found.now c.search_values.new.found c.in-Excluded.cites (rw c.in-Excluded.is at c.in_ok-search_values.ensures.ok) (g.B.Board.holding c.publish.new.board) c.in_err-publish-in-Excluded.ensures.moves)
 
 pub search_node-returns-in_err-publish-in-Excluded-clause-mark : goal.search_node-returns-in_err-publish-in-Excluded-clause-mark
-search_node-returns-in_err-publish-in-Excluded-clause-mark g t c = c.in_err-publish-in-Excluded.ensures.mark ∙ c.in_ok-search_values.ensures.mark ∙ c.in_ok-ticket.ensures.mark
+search_node-returns-in_err-publish-in-Excluded-clause-mark g t c = c.in_err-publish-in-Excluded.ensures.mark ∙ c.in_ok-search_values.ensures.mark ∙ c.in_ok-opening.ensures.mark
 
 pub search_node-returns-in-Completed-clause-ok : goal.search_node-returns-in-Completed-clause-ok
-search_node-returns-in-Completed-clause-ok g t c = answers_by_values (g.B.Board.holding c.args.board.now) c.args.index.now c.args.node.now c.args.p c.requires (g.B.Board.holding c.open.new.board) c.open.new.index c.in_ok-ticket.ticket c.in_ok-ticket.ensures.ok
+search_node-returns-in-Completed-clause-ok g t c = answers_by_values (g.B.Board.holding c.args.board.now) c.args.index.now c.args.node.now c.args.p c.requires (g.B.Board.holding c.open.new.board) c.open.new.index c.in_ok-opening.opening.ticket c.in_ok-opening.ensures.ok
     (g.B.Board.holding c.search_values.new.board) c.search_values.new.index c.args.found.now c.search_values.new.found _ (rw c.in-Completed.is at c.in_ok-search_values.ensures.ok)
 
 pub search_node-returns-in-Completed-clause-mark : goal.search_node-returns-in-Completed-clause-mark
-search_node-returns-in-Completed-clause-mark g t c = c.in_ok-search_values.ensures.mark ∙ c.in_ok-ticket.ensures.mark
+search_node-returns-in-Completed-clause-mark g t c = c.in_ok-search_values.ensures.mark ∙ c.in_ok-opening.ensures.mark
 
 pub search_node-returns-in-Inside-clause-ok : goal.search_node-returns-in-Inside-clause-ok
-search_node-returns-in-Inside-clause-ok g t c = answers_by_values (g.B.Board.holding c.args.board.now) c.args.index.now c.args.node.now c.args.p c.requires (g.B.Board.holding c.open.new.board) c.open.new.index c.in_ok-ticket.ticket c.in_ok-ticket.ensures.ok
+search_node-returns-in-Inside-clause-ok g t c = answers_by_values (g.B.Board.holding c.args.board.now) c.args.index.now c.args.node.now c.args.p c.requires (g.B.Board.holding c.open.new.board) c.open.new.index c.in_ok-opening.opening.ticket c.in_ok-opening.ensures.ok
     (g.B.Board.holding c.search_values.new.board) c.search_values.new.index c.args.found.now c.search_values.new.found _ (rw c.in-Inside.is at c.in_ok-search_values.ensures.ok)
 
 pub search_node-returns-in-Inside-clause-mark : goal.search_node-returns-in-Inside-clause-mark
-search_node-returns-in-Inside-clause-mark g t c = c.in_ok-search_values.ensures.mark ∙ c.in_ok-ticket.ensures.mark
+search_node-returns-in-Inside-clause-mark g t c = c.in_ok-search_values.ensures.mark ∙ c.in_ok-opening.ensures.mark
 
 pub search_node-returns-in_ok-publish-in-Excluded-clause-ok : goal.search_node-returns-in_ok-publish-in-Excluded-clause-ok
-search_node-returns-in_ok-publish-in-Excluded-clause-ok g t c = answers_published (g.B.Board.holding c.args.board.now) c.args.index.now c.args.node.now c.args.p c.requires (g.B.Board.holding c.open.new.board) c.open.new.index c.in_ok-ticket.ticket c.in_ok-ticket.ensures.ok
+search_node-returns-in_ok-publish-in-Excluded-clause-ok g t c = answers_published (g.B.Board.holding c.args.board.now) c.args.index.now c.args.node.now c.args.p c.requires (g.B.Board.holding c.open.new.board) c.open.new.index c.in_ok-opening.opening.ticket c.in_ok-opening.ensures.ok
     (g.B.Board.holding c.search_values.new.board) c.search_values.new.index c.args.found.now c.search_values.new.found c.in-Excluded.cites (rw c.in-Excluded.is at c.in_ok-search_values.ensures.ok) (g.B.Board.holding c.publish.new.board) c.publish.new.index c.in_ok-publish-in-Excluded.ensures.moves c.in_ok-publish-in-Excluded.ensures.ok
 
 pub search_node-returns-in_ok-publish-in-Excluded-clause-mark : goal.search_node-returns-in_ok-publish-in-Excluded-clause-mark
-search_node-returns-in_ok-publish-in-Excluded-clause-mark g t c = c.in_ok-publish-in-Excluded.ensures.mark ∙ c.in_ok-search_values.ensures.mark ∙ c.in_ok-ticket.ensures.mark
+search_node-returns-in_ok-publish-in-Excluded-clause-mark g t c = c.in_ok-publish-in-Excluded.ensures.mark ∙ c.in_ok-search_values.ensures.mark ∙ c.in_ok-opening.ensures.mark
 
 pub search_value-excluded_by-requires-clause-assignment : goal.search_value-excluded_by-requires-clause-assignment
 search_value-excluded_by-requires-clause-assignment g t c = subst (λ f. IsAssignmentOf f c.args.node.now) (sym c.frame.ensures.frame) c.requires.can.values.assignment

@@ -13,17 +13,17 @@ next_slot-self-inside-requires c = cursor_low _ c.self.invariant.0 (subst (λ (p
 
 pub invariant_of-self : goal.invariant_of-self
 invariant_of-self c = let some = subst (λ (p : PlainIs). p.tickets ≢ []) (sym c.self.view_is) c.requires in (
-  after_look _ c.self.invariant.0 some _ c.row-found.ensures _ _ _ _ c.one_more_look-self-inside.ensures c.head_at-self-inside.ensures.head (omega arith) c.next_slot-self-inside.ensures,
+  after_look _ c.self.invariant.0 some _ c.row-found.ensures _ _ _ _ c.one_more_look-self-inside.ensures c.head_at-head.ensures.head (omega arith) c.next_slot-self-inside.ensures,
   c.self.invariant.1,
   c.self.invariant.2,
 )
 
 pub returns-clause-moves : goal.returns-clause-moves
 returns-clause-moves c = let some = subst (λ (p : PlainIs). p.tickets ≢ []) (sym c.self.view_is) c.requires in
-    rw (← c.self.view_is) (sees _ c.self.invariant.0 some _ c.row-found.ensures _ _ _ _ c.one_more_look-self-inside.ensures c.head_at-self-inside.ensures.head (omega arith) c.next_slot-self-inside.ensures c.seen.result c.seen.ensures)
+    rw (← c.self.view_is) (sees _ c.self.invariant.0 some _ c.row-found.ensures _ _ _ _ c.one_more_look-self-inside.ensures c.head_at-head.ensures.head (omega arith) c.next_slot-self-inside.ensures c.seen.result c.seen.ensures)
 
 pub returns-clause-empty : goal.returns-clause-empty
-returns-clause-empty c = shows_empty c.self.inside.cursor _ c.seen.result c.head_at-self-inside.result c.seen.ensures c.head_at-self-inside.ensures.head
+returns-clause-empty c = shows_empty c.self.inside.cursor _ c.seen.result c.head_at-head.result c.seen.ensures c.head_at-head.ensures.head
 
 pub returns-clause-long : goal.returns-clause-long
-returns-clause-long c = shows_long c.self.inside.cursor _ c.head_at-self-inside.ensures.row c.seen.result c.head_at-self-inside.result c.seen.ensures c.head_at-self-inside.ensures.head
+returns-clause-long c = shows_long c.self.inside.cursor _ c.head_at-head.ensures.row c.seen.result c.head_at-head.result c.seen.ensures c.head_at-head.ensures.head
