@@ -1,10 +1,9 @@
 -- A pass claims a cube, or opens a node.
-use Rattle.std.proofs.Common.{◌≡◌, ℕ, ◌+◌, ◌%◌, ◌^◌, ◌<◌, ◌≤◌, ◌⊎◌, if◌then◌else◌, IsTrue, List, [], ◌∷◌, ◌++◌, map, length, set, slice_index, Option, Some, None, Contains, refl, sym, ap, ◌∙◌, inl, inr, ⊎_elim, subst, arith, get_or-set_same, get_or-set_other}
+use Rattle.std.proofs.Common.{◌≡◌, ℕ, ◌+◌, ◌%◌, ◌^◌, ◌<◌, ◌≤◌, ◌⊎◌, if◌then◌else◌, IsTrue, List, [], ◌∷◌, ◌++◌, set, slice_index, Option, Some, None, Contains, refl, sym, ap, ◌∙◌, inl, inr, ⊎_elim, subst, arith}
 use mathlib.Core.Option.{some}
 use mathlib.Core.Option as plain
 use lib.ListN.{get_elem?}
 use Rattle.std.specs.Prelude.{nat_lt}
-use Rattle.std.proofs.Math.Nat.{mod-eq_of_lt}
 use Rattle.std.proofs.lemmas.List.Elements.{Contains-append_left, Contains-push_cases}
 use Rattle.atomic_table.specs.Table as table
 use Rattle.atomic_table.specs.Table.{Me, Allows, step}
@@ -16,39 +15,20 @@ use Rattle.mr_exchange.specs.declared.ticket.Ticket.{Ticket}
 use Rattle.mr_exchange.specs.declared.event.Event.TheVariants.{Claim, OpenNode}
 use Rattle.mr_exchange.specs.declared.event.Reply.TheVariants.{Cube, Ticket as Drawn}
 use Rattle.mr_exchange.specs.State.{Pass, State, pass_at, slots_of}
-use Rattle.mr_exchange.specs.Events.{MayClaim, MayOpen, claimed, opened, state_after}
+use Rattle.mr_exchange.specs.Events.{claimed, opened}
 use Rattle.mr_exchange.specs.Sound.{IsSound}
 use Rattle.mr_exchange.specs.Board.{Holding, holding_of, CanOpen}
 use Rattle.mr_exchange.proofs.Totals.{lt_cases}
 use Rattle.mr_exchange.proofs.Lookups.{slots_of-append}
-use Rattle.mr_exchange.proofs.OnePass.{words_are_small}
-use Rattle.mr_exchange.proofs.Runs.{allowed_events_keep_soundness}
 use Rattle.mr_exchange.proofs.Holdings.{may_open}
-use Rattle.mr_exchange.proofs.Digits.{few_cubes}
-use Rattle.mr_exchange.proofs.Bounds.{cubes_are, depth_is, nodes_are}
 use Rattle.mr_store.specs.Seats.{Setting, Seen, find, or_zero, word_at, holding_seen, view_claimed, view_opened}
 use Rattle.mr_store.specs.Shown.{shown, rows_in_words, IsTied, Holds}
 use Rattle.mr_store.specs.Steps.{Claims, Opens}
 use Rattle.mr_store.specs.Kinds.{ClaimsAreEvents, OpeningsAreEvents}
 use Rattle.mr_store.proofs.Finding.{option_cases, same_place}
 use Rattle.mr_store.proofs.Showing.{passes_set, pass_here, live_here, number_here, tied_here, setting_here, facts_here, shown_here, holding_shown, happened}
-use Rattle.mr_store.proofs.Tying.{set_there, tied_pass, tied_word, tie, low_rows, low_words, low_tied}
-
--- neither word wraps
-words_fit : (g : Setting) (s : table.State (Unit {0}) Seen) → Holds g s → (slice_index s.words 0 + 1 < 2 ^ 64) × (slice_index s.words 1 + 1 < 2 ^ 64)
-words_fit g s h =
-    let small = words_are_small (shown g s.words s.views) h.sound in
-    let claim = small.0 in
-    let ticket = small.1 in
-    let cubes = cubes_are g.frame g.problem h.problem in
-    let few = few_cubes g.frame g.problem.depth (depth_is g.frame g.problem h.problem).0 in
-    let nodes = nodes_are g.frame g.problem h.problem in
-    let limit = h.limit in
-    (omega arith, omega arith)
-
--- there are the first two words
-two_words : (g : Setting) (s : table.State (Unit {0}) Seen) → Holds g s → 1 < length s.words
-two_words g s h = let size = h.tied.size in omega arith
+use Rattle.mr_store.proofs.Raising.{raised, raised_word, raised_other, raised_rows, raised_sound, raised_holds}
+use Rattle.mr_store.proofs.Tying.{set_there, tied_pass, tied_word, tie, low_rows, low_words}
 
 -- a claim leaves all of a pass but its cubes and its claim ends
 claimed_keeps : (cubes word : ℕ) (p : Pass) → let q : Pass = claimed cubes word p in (q.known ≡ p.known) × (q.tickets ≡ p.tickets) × (q.live ≡ p.live)
@@ -59,58 +39,35 @@ claimed_keeps cubes word p =
 -- a claim is the event of the seat's pass
 pub claims_are_events : ClaimsAreEvents
 claims_are_events g s id v h at live none =
-    let st : State = shown g s.words s.views in
     let word : ℕ = slice_index s.words 0 in
-    let n : ℕ = (word + 1) % 2 ^ 64 in
-    let w : Seen = view_claimed word v in
-    let two = two_words g s h in
-    let fit = words_fit g s h in
-    let next : n ≡ word + 1 = mod-eq_of_lt fit.0 in
     let here = pass_here g s id v h at live in
-    let same : g ≡ v.setting = setting_here g s id v h at live in
-    let may : MayClaim st id = record { live = live_here g s id v h at live; no_end = ap (λ (p : Pass). p.claim_ends) here ∙ none } in
-    let words : List ℕ = set s.words 0 n in
-    let views : List Seen = set s.views id w in
-    let claim_is : word + 1 ≡ slice_index words 0 = sym next ∙ sym (get_or-set_same s.words 0 n 0 (omega arith)) in
-    let ticket_is : slice_index s.words 1 ≡ slice_index words 1 = sym (get_or-set_other s.words 0 1 n 0 (λ e. omega arith)) in
-    let passes_are : set (map (λ (u : Seen). u.pass) s.views) id (claimed g.problem.cubes word (pass_at st id)) ≡ map (λ (u : Seen). u.pass) views = passes_set s.views id w (claimed g.problem.cubes word (pass_at st id)) (ap (claimed g.problem.cubes word) here ∙ ap (λ (x : Setting). claimed x.problem.cubes word v.pass) same) in
-    let rows_are : rows_in_words s.words ≡ rows_in_words words = sym (low_rows s.words 0 n (omega arith)) in
-    let leads : state_after st (Claim id) ≡ shown g words views = λ k. record { frame = g.frame; problem = g.problem; limit = g.limit; claim = claim_is k; ticket = ticket_is k; passes = passes_are k; rows = rows_are k } in
-    record { allowed = may; next = leads }
+    let passes_are = passes_set s.views id (view_claimed word v) (claimed g.problem.cubes word (pass_at (shown g s.words s.views) id)) (ap (claimed g.problem.cubes word) here ∙ ap (λ (x : Setting). claimed x.problem.cubes word v.pass) (setting_here g s id v h at live)) in record {
+      allowed = record { live = live_here g s id v h at live; no_end = ap (λ (p : Pass). p.claim_ends) here ∙ none };
+      next = λ k. record {
+        frame = g.frame;
+        problem = g.problem;
+        limit = g.limit;
+        claim = raised_word g s h 0 (omega arith) k;
+        ticket = raised_other g s h 0 (omega arith) 1 (λ e. omega arith) k;
+        passes = passes_are k;
+        rows = raised_rows g s h 0 (omega arith) k;
+      };
+    }
 
 -- a claim
 pub claims : (g : Setting) (slots id : ℕ) (m : Me (Unit {0}) Seen) → IsTrue m.0.pass.live → m.0.pass.claim_ends ≡ 0 → Allows (Holds g) slots id m 0 (λ n. (n + 1) % 2 ^ 64) (Claims (step slots 0 1 0 plain.none) m)
 claims g slots id m live none s h homes at fits =
     let v : Seen = m.0 in
-    let st : State = shown g s.words s.views in
     let word : ℕ = slice_index s.words 0 in
-    let n : ℕ = (word + 1) % 2 ^ 64 in
     let w : Seen = view_claimed word v in
-    let two = two_words g s h in
-    let fit = words_fit g s h in
-    let next : n ≡ word + 1 = mod-eq_of_lt fit.0 in
-    let here = pass_here g s id v h at live in
-    let same : g ≡ v.setting = setting_here g s id v h at live in
-    let kept = claimed_keeps v.setting.problem.cubes word v.pass in
-    let alive : IsTrue w.pass.live = kept.2 ∙ live in
-    let words : List ℕ = set s.words 0 n in
     let views : List Seen = set s.views id w in
-    let rows_are : rows_in_words s.words ≡ rows_in_words words = sym (low_rows s.words 0 n (omega arith)) in
-    let ticket_is : slice_index s.words 1 ≡ slice_index words 1 = sym (get_or-set_other s.words 0 1 n 0 (λ e. omega arith)) in
+    let kept = claimed_keeps v.setting.problem.cubes word v.pass in
     let made = claims_are_events g s id v h at live none in
-    let may : MayClaim st id = made.allowed in
-    let leads : state_after st (Claim id) ≡ shown g words views = made.next in
-    let t : table.State (Unit {0}) Seen = record { words = words; homes = s.homes; views = views } in
-    let more : slice_index s.words 1 ≤ slice_index words 1 = omega arith in
-    let mine : IsTied (shown g words views) words w = tied_word (shown g words views) words (record v { pass = w.pass }) word
-    (tied_pass st (shown g words views) s.words words v w.pass kept.0 kept.1 refl (λ slot row e. ap (λ (rows : Rows). rows slot) (sym rows_are) ∙ e) (low_words s.words 0 n (omega arith)) (tied_here g s id v h at live)) in
-    let rule : Holds g t = record {
-      frame = h.frame;
-      problem = h.problem;
-      limit = h.limit;
-      sound = subst IsSound leads (allowed_events_keep_soundness st (Claim id) h.sound may);
-      tied = low_tied s.words 0 n (omega arith) g s.views id w more mine h.tied;
-    } in
+    let ticket_is = raised_other g s h 0 (omega arith) 1 (λ e. omega arith) in
+    let mine : IsTied (shown g (raised s.words 0) views) (raised s.words 0) w = tied_word (shown g (raised s.words 0) views) (raised s.words 0) (record v { pass = w.pass }) word
+    (tied_pass (shown g s.words s.views) (shown g (raised s.words 0) views) s.words (raised s.words 0) v w.pass kept.0 kept.1 refl (λ slot row e. ap (λ (rows : Rows). rows slot) (sym (raised_rows g s h 0 (omega arith))) ∙ e)
+    (low_words s.words 0 ((word + 1) % 2 ^ 64) (omega arith)) (tied_here g s id v h at live)) in
+    let rule = raised_holds g s h 0 (omega arith) id w (Claim id) made (omega arith) mine in
     let reply : Option ℕ = if nat_lt word v.setting.problem.cubes then Some word else None in (
       w,
       keeps,
@@ -119,7 +76,8 @@ claims g slots id m live none s h homes at fits =
       record {
         at = (refl, refl);
         is = refl;
-        event = happened g s t id v w (λ k. Claim k) (Cube reply) h at live rule (set_there s.views id v w at) alive may (ap (λ (x : Setting). Cube (if nat_lt word x.problem.cubes then Some word else None)) same) leads (λ _ _ e. e) refl;
+        event = happened g s (record { words = raised s.words 0; homes = s.homes; views = views }) id v w (λ k. Claim k) (Cube reply) h at live rule (set_there s.views id v w at) (kept.2 ∙ live) made.allowed
+            (ap (λ (x : Setting). Cube (if nat_lt word x.problem.cubes then Some word else None)) (setting_here g s id v h at live)) made.next (λ _ _ e. e) refl;
       },
     )
 
@@ -208,55 +166,32 @@ pub openings_are_events : OpeningsAreEvents
 openings_are_events g s id v node h at live alone can =
     let st : State = shown g s.words s.views in
     let word : ℕ = slice_index s.words 1 in
-    let n : ℕ = (word + 1) % 2 ^ 64 in
-    let w : Seen = view_opened word node v in
-    let two = two_words g s h in
-    let fit = words_fit g s h in
-    let next : n ≡ word + 1 = mod-eq_of_lt fit.1 in
     let here = pass_here g s id v h at live in
-    let same : g ≡ v.setting = setting_here g s id v h at live in
     let holding : holding_of st id ≡ holding_seen v = ap (holding_of st) (sym (number_here g s id v h at live)) ∙ holding_shown st v (shown_here g s id v h at live) in
-    let may : MayOpen st id node = (may_open st id node (live_here g s id v h at live) (ap (λ (p : Pass). p.joined) here ∙ alone)).1 (subst (λ (x : Holding). CanOpen x node) (sym holding) can) in
-    let words : List ℕ = set s.words 1 n in
-    let views : List Seen = set s.views id w in
-    let claim_is : slice_index s.words 0 ≡ slice_index words 0 = sym (get_or-set_other s.words 1 0 n 0 (λ e. omega arith)) in
-    let ticket_is : word + 1 ≡ slice_index words 1 = sym next ∙ sym (get_or-set_same s.words 1 n 0 two) in
-    let passes_are : set (map (λ (u : Seen). u.pass) s.views) id (opened g.problem.nodes word node (pass_at st id)) ≡ map (λ (u : Seen). u.pass) views = passes_set s.views id w (opened g.problem.nodes word node (pass_at st id)) (ap (opened g.problem.nodes word node) here ∙ ap (λ (x : Setting). opened x.problem.nodes word node v.pass) same) in
-    let rows_are : rows_in_words s.words ≡ rows_in_words words = sym (low_rows s.words 1 n (omega arith)) in
-    let leads : state_after st (OpenNode id node) ≡ shown g words views = λ k. record { frame = g.frame; problem = g.problem; limit = g.limit; claim = claim_is k; ticket = ticket_is k; passes = passes_are k; rows = rows_are k } in
-    record { allowed = may; next = leads }
+    let passes_are = passes_set s.views id (view_opened word node v) (opened g.problem.nodes word node (pass_at st id)) (ap (opened g.problem.nodes word node) here ∙ ap (λ (x : Setting). opened x.problem.nodes word node v.pass) (setting_here g s id v h at live)) in record {
+      allowed = (may_open st id node (live_here g s id v h at live) (ap (λ (p : Pass). p.joined) here ∙ alone)).1 (subst (λ (x : Holding). CanOpen x node) (sym holding) can);
+      next = λ k. record {
+        frame = g.frame;
+        problem = g.problem;
+        limit = g.limit;
+        claim = raised_other g s h 1 (omega arith) 0 (λ e. omega arith) k;
+        ticket = raised_word g s h 1 (omega arith) k;
+        passes = passes_are k;
+        rows = raised_rows g s h 1 (omega arith) k;
+      };
+    }
 
 -- an opening
 pub opens : (g : Setting) (slots id : ℕ) (m : Me (Unit {0}) Seen) (node : List ℕ) → IsTrue m.0.pass.live → m.0.pass.joined ≡ [] → CanOpen (holding_seen m.0) node → Allows (Holds g) slots id m 1 (λ n. (n + 1) % 2 ^ 64) (Opens node (step slots 1 1 0 plain.none) m)
 opens g slots id m node live alone can s h homes at fits =
     let v : Seen = m.0 in
-    let st : State = shown g s.words s.views in
     let word : ℕ = slice_index s.words 1 in
-    let n : ℕ = (word + 1) % 2 ^ 64 in
     let w : Seen = view_opened word node v in
-    let two = two_words g s h in
-    let fit = words_fit g s h in
-    let next : n ≡ word + 1 = mod-eq_of_lt fit.1 in
-    let here = pass_here g s id v h at live in
-    let same : g ≡ v.setting = setting_here g s id v h at live in
-    let alive : IsTrue w.pass.live = opened_keeps v.setting.problem.nodes word node v.pass ∙ live in
-    let words : List ℕ = set s.words 1 n in
     let views : List Seen = set s.views id w in
     let made = openings_are_events g s id v node h at live alone can in
-    let may : MayOpen st id node = made.allowed in
-    let leads : state_after st (OpenNode id node) ≡ shown g words views = made.next in
-    let ticket_is : word + 1 ≡ slice_index words 1 = sym next ∙ sym (get_or-set_same s.words 1 n 0 two) in
-    let t : table.State (Unit {0}) Seen = record { words = words; homes = s.homes; views = views } in
-    let more : word ≤ slice_index words 1 = omega arith in
-    let sound : IsSound (shown g words views) = subst IsSound leads (allowed_events_keep_soundness st (OpenNode id node) h.sound may) in
-    let mine : IsTied (shown g words views) words w = opened_tied g s id v node n h at live w.pass refl sound in
-    let rule : Holds g t = record {
-      frame = h.frame;
-      problem = h.problem;
-      limit = h.limit;
-      sound = sound;
-      tied = low_tied s.words 1 n (omega arith) g s.views id w more mine h.tied;
-    } in
+    let ticket_is = raised_word g s h 1 (omega arith) in
+    let mine : IsTied (shown g (raised s.words 1) views) (raised s.words 1) w = opened_tied g s id v node ((word + 1) % 2 ^ 64) h at live w.pass refl (raised_sound g s h 1 (omega arith) views (OpenNode id node) made) in
+    let rule = raised_holds g s h 1 (omega arith) id w (OpenNode id node) made (omega arith) mine in
     let reply : Option ℕ = if nat_lt word v.setting.problem.nodes then Some word else None in (
       w,
       keeps,
@@ -265,6 +200,7 @@ opens g slots id m node live alone can s h homes at fits =
       record {
         at = (refl, refl);
         is = refl;
-        event = happened g s t id v w (λ k. OpenNode k node) (Drawn reply) h at live rule (set_there s.views id v w at) alive may (ap (λ (x : Setting). Drawn (if nat_lt word x.problem.nodes then Some word else None)) same) leads (λ _ _ e. e) refl;
+        event = happened g s (record { words = raised s.words 1; homes = s.homes; views = views }) id v w (λ k. OpenNode k node) (Drawn reply) h at live rule (set_there s.views id v w at) (opened_keeps v.setting.problem.nodes word node v.pass ∙ live) made.allowed
+            (ap (λ (x : Setting). Drawn (if nat_lt word x.problem.nodes then Some word else None)) (setting_here g s id v h at live)) made.next (λ _ _ e. e) refl;
       },
     )

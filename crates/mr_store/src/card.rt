@@ -36,6 +36,7 @@ impl Model for Card {
 }
 
 impl Card {
+    /// The problem, and what its pass was told.
     pub fn problem(&self) -> Problem
         ensures problem { result ≡ (held_by self.now).problem }
         ensures facts { CardFacts self.now }

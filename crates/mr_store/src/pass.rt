@@ -46,6 +46,7 @@ impl<'f> Store<'f> {
 }
 
 impl<'a, 'f> Pass<'a, 'f> {
+    /// Gives the card back.
     pub fn card(self) -> Card
         ensures { result ≡ self.entry }
     {

@@ -48,8 +48,8 @@ pub(crate) fn store_row(words: &Words, seat: &mut Seat<(), View>, slot: u32, row
     ensures held { seat.new.me.1 ≡ seat.old.me.1 }
     ensures laid { IsLaid seat.old.me.0 slot row.now ROW_WORDS seat.new.me.0 }
 {
-    for j in 1..ROW_WORDS {
-        words.store::<Lay>(seat, word_at(slot, j), row[j]);
+    for place in 1..ROW_WORDS {
+        words.store::<Lay>(seat, word_at(slot, place), row[place]);
     }
 }
 

@@ -72,6 +72,7 @@ impl<'f> Store<'f> {
         Ok((Store { frame, table }, card))
     }
 
+    /// The frame that the problem is one of.
     pub fn frame(&self) -> &Frame
         ensures { result.now ≡ self.now.setting.frame }
     {

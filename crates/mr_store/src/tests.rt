@@ -158,6 +158,8 @@ fn a_row_that_one_pass_publishes_another_sees(rt: HostRuntime) -> Result<(), Fai
     assert!(rt; claims(&mut two, 1));
     assert!(rt; opens(&mut one, 0, &Assign::empty().with(0, 1), 0));
     assert!(rt; opens(&mut two, 1, &Assign::empty().with(0, 2), 1));
+    assert!(rt; sees(&mut two, Look::Empty));
+    assert!(rt; sees(&mut two, Look::Empty));
     assert!(rt; publishes(&mut one, 0, &row()));
     assert!(rt; sees(&mut two, Look::Short(0, row())));
     assert!(rt; sees(&mut two, Look::Empty));
