@@ -1,8 +1,8 @@
 ghost use Rattle.std.specs.Prelude.{◌≤◌};
 
 use crate::desk::search_all;
-use crate::{Gated, PoolAnswer, PoolStop, WorkStop, Worked, run_one, run_pool, work};
-use mr_exchange::{Closed, CubeAnswer, PlainBoard, Problem};
+use crate::{Gated, PoolAnswer, PoolStop, Script, Turn, WorkStop, Worked, run_one, run_pool, work};
+use mr_exchange::{CubeAnswer, NODES, PASSES, PlainBoard, Problem, SPLIT};
 use mr_field::Field;
 use mr_frame::Frame;
 use mr_io::{Gate, Point, Silent};
@@ -10,48 +10,45 @@ use mr_matroid::Matroid;
 use mr_set::{ELEMENTS, Set, binomial};
 use mr_store::Store;
 use std::alloc::Global;
-use std::sync::atomic::{AtomicBool, AtomicU64, Ordering};
-use std::test::Fail;
-use std::thread;
+use std::sync::atomic::{AtomicU64, Ordering};
 use std::thread::Threads;
 
-// A worker is held for at most so many turns.
-const TURNS: u32 = 200_000_000;
-
 // The frame of the matroid of `n` elements in which each set of `r` is a basis, over the field with so many elements.
-fn uniform(alloc: Global, n: u32, r: u32, order: u32) -> Result<Frame, Fail> {
+fn uniform(alloc: Global, n: u32, r: u32, order: u32) -> Option<Frame> {
     if n > ELEMENTS || r > n || binomial(n, r).is_none() {
-        return Err("the numbers are within the limits".into());
+        return None;
     }
     let none: [Set; 0] = [];
     match Matroid::from_nonbases(alloc, n, r, none.as_slice()) {
-        Err(_) => Err("a matroid".into()),
-        Ok(m) => Ok(Frame::new(alloc, m, Field::of(order).ok_or("a field")?)?),
+        Err(_) => None,
+        Ok(m) => Frame::new(alloc, m, Field::of(order)?).ok(),
     }
 }
 
-// The values of the first free position in the completions found, in the order of the answers.
-fn values_found(alloc: Global, answers: &[CubeAnswer]) -> Result<Vec<u8>, Fail> {
-    let mut values = Vec::new(alloc);
+// What a run answered.
+#[derive(Clone, Copy, Debug, PartialEq, Eq)]
+enum Ran {
+    Both { cubes: u32 },
+    Otherwise,
+    Stopped { opened: u32 },
+    NoMemory,
+    NoProblem,
+}
+
+// Whether the completions found are two, the first with 2 in the first free position and the other with 3.
+fn are_both(answers: &[CubeAnswer]) -> bool {
+    let mut next = 2u8;
     for answer in answers {
-        match answer {
-            CubeAnswer::Refuted(_) => {}
-            CubeAnswer::Found(found) => {
-                for completion in found.as_slice() {
-                    values.push(completion.get(0))?;
+        if let CubeAnswer::Found(found) = answer {
+            for completion in found.as_slice() {
+                if completion.get(0) != next {
+                    return false;
                 }
+                next = next.saturating_add(1);
             }
         }
     }
-    Ok(values)
-}
-
-// The answer of a run that isn't stopped.
-fn answer_of(ran: Result<PoolAnswer, PoolStop>) -> Result<PoolAnswer, Fail> {
-    match ran {
-        Ok(answer) => Ok(answer),
-        Err(_) => Err("an answer".into()),
-    }
+    next == 4
 }
 
 // What may cross threads.
@@ -59,158 +56,246 @@ fn moved<T: Send + Sync>(value: T) -> T {
     value
 }
 
-// How many nodes a run opened that was stopped for want of tickets.
-fn opened_of(ran: Result<PoolAnswer, PoolStop>) -> Result<u32, Fail> {
-    match ran {
-        Ok(_) => Err("a stop".into()),
-        Err(stop) => match stop {
-            PoolStop::Stopped { closed } => Ok(closed.opened()),
-            PoolStop::Memory => Err("memory".into()),
-        },
+fn found(answers: &[CubeAnswer], cubes: u32) -> Ran {
+    if are_both(answers) {
+        Ran::Both { cubes }
+    } else {
+        Ran::Otherwise
     }
 }
 
-#[test]
-fn four_points_have_two_completions_over_four_elements(rt: HostRuntime) -> Result<(), Fail> {
-    let frame = uniform(rt.alloc(), 4, 2, 4)?;
-    let answer = answer_of(run_one(rt.alloc(), &frame, Problem::of(&frame, 1, 4)))?;
-    assert_eq!(rt; answer.closed.claimed(), 3);
-    assert_eq!(rt; answer.answers.as_slice().len(), 3);
-    let values = values_found(rt.alloc(), answer.answers.as_slice())?;
-    assert_eq!(rt; values.as_slice(), [2, 3].as_slice());
-    Ok(())
+fn stopped(stop: &PoolStop) -> Ran {
+    match stop {
+        PoolStop::Stopped { closed } => Ran::Stopped {
+            opened: closed.opened(),
+        },
+        PoolStop::Memory => Ran::NoMemory,
+    }
 }
 
-#[test]
-fn one_node_is_too_few(rt: HostRuntime) -> Result<(), Fail> {
-    let frame = uniform(rt.alloc(), 4, 2, 4)?;
-    assert_eq!(rt;
-        opened_of(run_one(rt.alloc(), &frame, Problem::of(&frame, 0, 1)))?,
-        1
-    );
-    Ok(())
+fn told(ran: &Result<PoolAnswer, PoolStop>) -> Ran {
+    match ran {
+        Ok(answer) => found(answer.answers.as_slice(), answer.closed.claimed()),
+        Err(stop) => stopped(stop),
+    }
 }
 
-// What so many workers answer on four points.
-fn pool_of_four_points<R: Threads + Sync>(
+// What so many workers answer on a frame with two completions.
+fn pool<R: Threads + Sync, G: Gate + Sync>(
     rt: &R,
     alloc: Global,
+    frame: Option<Frame>,
     split: u32,
     nodes: u32,
     workers: u32,
-) -> Result<Result<PoolAnswer, PoolStop>, Fail>
+    gate: &G,
+) -> Ran {
+    let Some(frame) = frame else {
+        return Ran::NoProblem;
+    };
+    if split > SPLIT || nodes == 0 || nodes > NODES || workers == 0 || workers > PASSES {
+        return Ran::NoProblem;
+    }
+    let problem = Problem::of(&frame, split, nodes);
+    told(&run_pool(rt, alloc, &frame, problem, workers, gate))
+}
+
+// What one worker answers on four points.
+fn one(alloc: Global, split: u32, nodes: u32) -> Ran
     requires split { split ≤ 4 }
     requires nodes { (1 ≤ nodes) × (nodes ≤ 10) }
-    requires workers { (1 ≤ workers) × (workers ≤ 8) }
 {
+    match uniform(alloc, 4, 2, 4) {
+        None => Ran::NoProblem,
+        Some(frame) => told(&moved(run_one(alloc, &frame, Problem::of(&frame, split, nodes)))),
+    }
+}
+
+#[test]
+fn one_worker_finds_both_completions_of_four_points(rt: HostRuntime) {
+    assert_eq!(rt; one(rt.alloc(), 1, 4), Ran::Both { cubes: 3 });
+    assert_eq!(rt; one(rt.alloc(), 0, 1), Ran::Stopped { opened: 1 });
+}
+
+#[test]
+fn workers_find_both_completions_of_four_points(rt: HostRuntime) {
+    for (split, nodes, workers, want) in [
+        (1, 4, 2, Ran::Both { cubes: 3 }),
+        (0, 4, 8, Ran::Both { cubes: 1 }),
+        (0, 1, 2, Ran::Stopped { opened: 1 }),
+    ] {
+        let frame = uniform(rt.alloc(), 4, 2, 4);
+        let ran = pool(&rt, rt.alloc(), frame, split, nodes, workers, &Silent);
+        assert_eq!(rt; ran, want, "with {workers} workers");
+    }
+}
+
+// How many nodes a store had opened whose two workers were stopped.
+fn left_of_two<R: Threads + Sync>(rt: &R, alloc: Global) -> Option<u32> {
     let frame = uniform(alloc, 4, 2, 4)?;
-    let problem = Problem::of(&frame, split, nodes);
-    Ok(run_pool(rt, alloc, &frame, problem, workers, &Silent))
-}
-
-#[test]
-fn workers_find_both_completions_of_four_points(rt: HostRuntime) -> Result<(), Fail> {
-    let two = moved(answer_of(pool_of_four_points(&rt, rt.alloc(), 1, 4, 2)?)?);
-    assert_eq!(rt; two.closed.claimed(), 3);
-    assert_eq!(rt; two.answers.as_slice().len(), 3);
-    let values = values_found(rt.alloc(), two.answers.as_slice())?;
-    assert_eq!(rt; values.as_slice(), [2, 3].as_slice());
-    let eight = answer_of(pool_of_four_points(&rt, rt.alloc(), 0, 4, 8)?)?;
-    assert_eq!(rt; eight.answers.as_slice().len(), 1);
-    let values = values_found(rt.alloc(), eight.answers.as_slice())?;
-    assert_eq!(rt; values.as_slice(), [2, 3].as_slice());
-    Ok(())
-}
-
-#[test]
-fn workers_stop_where_there_are_more_nodes(rt: HostRuntime) -> Result<(), Fail> {
-    assert_eq!(rt;
-        opened_of(pool_of_four_points(&rt, rt.alloc(), 0, 1, 2)?)?,
-        1
-    );
-    Ok(())
-}
-
-#[test]
-fn a_store_is_left_with_its_first_card(rt: HostRuntime) -> Result<(), Fail> {
-    let frame = uniform(rt.alloc(), 4, 2, 4)?;
-    let (store, first) = Store::new(rt.alloc(), &frame, Problem::of(&frame, 1, 1), 3)?;
-    let Worked { card, answers } = work(&rt, rt.alloc(), &store, first, 2, &Silent);
-    match answers {
-        Ok(_) => return Err("a stop".into()),
-        Err(stop) => assert_eq!(rt; stop, WorkStop::Over),
-    }
-    let Ok(closed) = store.close(rt.alloc(), card) else {
-        return Err("memory".into());
-    };
-    assert_eq!(rt; closed.opened(), 1);
-    Ok(())
-}
-
-// Holds worker 0 after a claim until another worker has a cube, and each other until worker 0 has one.
-#[derive(Drop)]
-struct BothClaim {
-    first: AtomicBool,
-    second: AtomicBool,
-    missed: AtomicBool,
-}
-
-impl BothClaim {
-    // Waits until the flag is set.
-    fn wait_for(&self, flag: &AtomicBool) {
-        for _turn in 0..TURNS {
-            if flag.load(Ordering::SeqCst) {
-                return;
-            }
-            thread::yield_now();
-        }
-        self.missed.store(true, Ordering::SeqCst);
+    let (store, first) = Store::new(alloc, &frame, Problem::of(&frame, 1, 1), 3).ok()?;
+    let Worked { card, answers } = work(rt, alloc, &store, first, 2, &Silent);
+    let stopped = matches!(answers, Err(WorkStop::Over));
+    match store.close(alloc, card) {
+        Ok(closed) if stopped => Some(closed.opened()),
+        _ => None,
     }
 }
 
-impl Gate for BothClaim {
-    fn at(&self, worker: u32, point: Point) {
-        if point != Point::Claimed {
-            return;
-        }
-        if worker == 0 {
-            self.first.store(true, Ordering::SeqCst);
-            self.wait_for(&self.second);
-        } else {
-            self.second.store(true, Ordering::SeqCst);
-            self.wait_for(&self.first);
-        }
+#[test]
+fn a_store_is_left_with_its_first_card(rt: HostRuntime) {
+    assert_eq!(rt; left_of_two(&rt, rt.alloc()), Some(1));
+}
+
+// Whether a script was missed, and how many claims it saw.
+fn seen_by(script: &Script) -> (bool, u32) {
+    (script.missed(), script.claims())
+}
+
+// What a script saw of these calls, one after another.
+fn seen_of(alloc: Global, turns: &[Turn], calls: &[Turn], limit: u32) -> Option<(bool, u32)> {
+    let script = Script::new(alloc, turns, limit).ok()?;
+    for call in calls {
+        script.at(call.worker, call.point);
+    }
+    Some(seen_by(&script))
+}
+
+fn turn(worker: u32, point: Point) -> Turn {
+    Turn { worker, point }
+}
+
+// The turns, the calls in their order, how often a call may try again, and whether a turn was missed, with the number of
+// claims.
+#[test]
+fn a_script_is_missed_by_a_call_before_its_turn(rt: HostRuntime) {
+    let first = turn(0, Point::Claimed);
+    let other = turn(1, Point::Claimed);
+    let looks = turn(1, Point::Looked);
+    for (turns, calls, limit, want) in [
+        // in order
+        (
+            [first, other].as_slice(),
+            [first, other].as_slice(),
+            0,
+            (false, 2),
+        ),
+        // too early
+        ([first, other].as_slice(), [other].as_slice(), 3, (true, 1)),
+        // a turn is taken once
+        (
+            [first, first, other].as_slice(),
+            [first, other].as_slice(),
+            3,
+            (true, 2),
+        ),
+        (
+            [first, first, other].as_slice(),
+            [first, first, other].as_slice(),
+            3,
+            (false, 3),
+        ),
+        // a turn that was taken, or that isn't on the list
+        (
+            [first, other].as_slice(),
+            [first, first, looks].as_slice(),
+            0,
+            (false, 2),
+        ),
+        ([].as_slice(), [looks, other].as_slice(), 0, (false, 1)),
+    ] {
+        let seen = seen_of(rt.alloc(), turns, calls, limit);
+        assert_eq!(rt; seen, Some(want));
     }
 }
+
+// What so many workers answer on six points of which each three are a basis, and what their script saw.
+fn scripted<R: Threads + Sync>(
+    rt: &R,
+    alloc: Global,
+    workers: u32,
+    split: u32,
+    turns: &[Turn],
+    limit: u32,
+) -> Option<(Ran, bool, u32)> {
+    let script = Script::new(alloc, turns, limit).ok()?;
+    let frame = uniform(alloc, 6, 3, 4);
+    let ran = pool(rt, alloc, frame, split, 500, workers, &script);
+    Some((ran, script.missed(), script.claims()))
+}
+
+// A worker is held for at most so many tries.
+const TRIES: u32 = 200_000_000;
 
 // Six points of the plane over four elements, no three of which are on a line, are fixed by four of them, and the two others
 // can be exchanged.
 #[test]
-fn a_second_worker_claims_before_the_first_has_ended(rt: HostRuntime) -> Result<(), Fail> {
-    let frame = uniform(rt.alloc(), 6, 3, 4)?;
-    let gate = BothClaim {
-        first: AtomicBool::new(false),
-        second: AtomicBool::new(false),
-        missed: AtomicBool::new(false),
-    };
-    let ran = run_pool(
-        &rt,
-        rt.alloc(),
-        &frame,
-        Problem::of(&frame, 2, 500),
-        2,
-        &gate,
-    );
-    let answer = answer_of(ran)?;
-    assert_eq!(rt; answer.closed.claimed(), 9);
-    let values = values_found(rt.alloc(), answer.answers.as_slice())?;
-    assert_eq!(rt; values.as_slice(), [2, 3].as_slice());
-    assert!(rt; gate.first.load(Ordering::SeqCst) && gate.second.load(Ordering::SeqCst));
-    assert!(rt; !gate.missed.load(Ordering::SeqCst));
-    Ok(())
+fn nine_cubes_are_claimed_once_in_each_order_of_two_workers(rt: HostRuntime) {
+    let first = turn(0, Point::Claimed);
+    let other = turn(1, Point::Claimed);
+    let ended = turn(1, Point::Ended);
+    for (turns, name) in [
+        ([first, other, first, other].as_slice(), "in turn"),
+        (
+            [
+                other, other, other, other, other, other, other, other, first,
+            ]
+            .as_slice(),
+            "the other first",
+        ),
+        (
+            [
+                first, first, first, first, first, first, first, first, other,
+            ]
+            .as_slice(),
+            "the first first",
+        ),
+        ([ended, turn(0, Point::Opened)].as_slice(), "held at a node"),
+        ([ended, turn(0, Point::Looked)].as_slice(), "held at a look"),
+        ([ended, first].as_slice(), "held at its first cube"),
+    ] {
+        let seen = scripted(&rt, rt.alloc(), 2, 2, turns, TRIES);
+        assert_eq!(rt; seen, Some((Ran::Both { cubes: 9 }, false, 9)), "{name}");
+    }
 }
 
-// Counts the calls of worker 7 at each point, and those of other workers.
+#[test]
+fn cubes_are_claimed_once_by_many_workers(rt: HostRuntime) {
+    let first = turn(0, Point::Claimed);
+    let other = turn(1, Point::Claimed);
+    for (workers, split, turns, limit, cubes, missed) in [
+        // more workers than cubes
+        (64, 0, [].as_slice(), 0, 1, false),
+        (12, 2, [].as_slice(), 0, 9, false),
+        // each of two is held at its claim until the other has one
+        (
+            2,
+            2,
+            [other, first, other, first].as_slice(),
+            TRIES,
+            9,
+            false,
+        ),
+        // a turn of a worker that there isn't
+        (
+            2,
+            2,
+            [turn(2, Point::Claimed), first, other].as_slice(),
+            3,
+            9,
+            true,
+        ),
+    ] {
+        let seen = scripted(&rt, rt.alloc(), workers, split, turns, limit);
+        assert_eq!(rt;
+            seen,
+            Some((Ran::Both { cubes }, missed, cubes)),
+            "{workers} workers"
+        );
+    }
+}
+
+// Counts the calls of eight workers at each point, a byte for each worker.
 #[derive(Drop)]
 struct Calls {
     claimed: AtomicU64,
@@ -218,7 +303,6 @@ struct Calls {
     looked: AtomicU64,
     published: AtomicU64,
     ended: AtomicU64,
-    others: AtomicU64,
 }
 
 impl Calls {
@@ -229,70 +313,89 @@ impl Calls {
             looked: AtomicU64::new(0),
             published: AtomicU64::new(0),
             ended: AtomicU64::new(0),
-            others: AtomicU64::new(0),
         }
+    }
+
+    fn bytes(&self, point: Point) -> &AtomicU64 {
+        match point {
+            Point::Claimed => &self.claimed,
+            Point::Opened => &self.opened,
+            Point::Looked => &self.looked,
+            Point::Published => &self.published,
+            Point::Ended => &self.ended,
+        }
+    }
+
+    // The calls of each worker.
+    fn of_each(&self, point: Point) -> u64 {
+        self.bytes(point).load(Ordering::SeqCst)
+    }
+
+    // The calls of all workers, which are fewer than 255: each power of 256 leaves 1.
+    fn of_all(&self, point: Point) -> u64 {
+        self.of_each(point) % 255
     }
 }
 
 impl Gate for Calls {
     fn at(&self, worker: u32, point: Point) {
-        let calls = if worker == 7 {
-            match point {
-                Point::Claimed => &self.claimed,
-                Point::Opened => &self.opened,
-                Point::Looked => &self.looked,
-                Point::Published => &self.published,
-                Point::Ended => &self.ended,
-            }
-        } else {
-            &self.others
-        };
-        calls.fetch_add(1, Ordering::SeqCst);
+        let one = 1u64 << (8 * (worker % 8));
+        self.bytes(point).fetch_add(one, Ordering::SeqCst);
     }
 }
 
-// How many slots have a row.
-fn rows_of(closed: &Closed) -> u64 {
-    let mut rows = 0u64;
-    for slot in 0..closed.opened() {
-        if closed.row(slot).is_some() {
-            rows = rows.saturating_add(1);
-        }
-    }
-    rows
-}
-
-// Worker 7 searches all cubes of five points, and each of its calls passed the gate at its point. Gives how many rows were
-// published.
-fn pass_gate(alloc: Global, order: u32) -> Result<u64, Fail> {
+// How often worker 7 calls a gate at the point while it searches all cubes of five points, alone and without a store. The
+// calls of each other worker stand in lower bytes.
+fn calls_of_seven(alloc: Global, order: u32, point: Point) -> Option<u64> {
     let frame = uniform(alloc, 5, 2, order)?;
+    let Ok(plain) = PlainBoard::new(alloc, &frame, Problem::of(&frame, 1, 10)) else {
+        return None;
+    };
     let calls = Calls::new();
-    let plain = PlainBoard::new(alloc, &frame, Problem::of(&frame, 1, 10))?;
     let mut board = Gated::new(plain, 7, &calls);
     let mut list = Vec::new(alloc);
-    if search_all(alloc, &mut board, &mut list).is_some() {
-        return Err("no stop".into());
-    }
-    let closed = board.board().close();
-    let rows = rows_of(&closed);
-    let told = calls.claimed.load(Ordering::SeqCst) == u64::from(closed.claimed())
-        && calls.opened.load(Ordering::SeqCst) == u64::from(closed.opened())
-        && calls.published.load(Ordering::SeqCst) == rows
-        && calls.looked.load(Ordering::SeqCst) / 4 >= u64::from(closed.opened())
-        && calls.ended.load(Ordering::SeqCst) == 1
-        && calls.others.load(Ordering::SeqCst) == 0;
-    if told {
-        Ok(rows)
-    } else {
-        Err("a call that passed no gate".into())
-    }
+    let _stop = search_all(alloc, &mut board, &mut list);
+    let _plain = board.board();
+    Some(calls.of_each(point))
 }
 
 // Over three elements there are too few points on a line, and no set of two fails under one of the two cubes. Over four
-// elements the second and the third cube have a completion each.
+// elements the second and the third cube have a completion each, and two nodes. Four looks are due for a node.
 #[test]
-fn each_call_of_a_board_passes_the_gate_at_its_point(rt: HostRuntime) -> Result<(), Fail> {
-    assert_eq!(rt; pass_gate(rt.alloc(), 3)?, 1);
-    assert_eq!(rt; pass_gate(rt.alloc(), 4)?, 0);
-    Ok(())
+fn each_call_of_a_board_passes_the_gate_at_its_point(rt: HostRuntime) {
+    for (order, point, count) in [
+        (3, Point::Claimed, 2),
+        (3, Point::Opened, 1),
+        (3, Point::Looked, 4),
+        (3, Point::Published, 1),
+        (3, Point::Ended, 1),
+        (4, Point::Claimed, 3),
+        (4, Point::Opened, 4),
+        (4, Point::Looked, 16),
+        (4, Point::Published, 0),
+        (4, Point::Ended, 1),
+    ] {
+        let calls = calls_of_seven(rt.alloc(), order, point);
+        assert_eq!(rt; calls, Some(count << 56), "over {order}");
+    }
+}
+
+// Two cubes of six points have a completion each, and three nodes. No node fails.
+#[test]
+fn each_call_of_a_worker_passes_the_gate_with_its_number(rt: HostRuntime) {
+    for (workers, each) in [(1, 1), (2, 0x101), (8, 0x0101_0101_0101_0101)] {
+        let calls = Calls::new();
+        let frame = uniform(rt.alloc(), 6, 3, 4);
+        let ran = pool(&rt, rt.alloc(), frame, 2, 500, workers, &calls);
+        assert_eq!(rt; ran, Ran::Both { cubes: 9 });
+        assert_eq!(rt; calls.of_each(Point::Ended), each);
+        for (point, count) in [
+            (Point::Claimed, 9),
+            (Point::Opened, 6),
+            (Point::Looked, 24),
+            (Point::Published, 0),
+        ] {
+            assert_eq!(rt; calls.of_all(point), count, "with {workers} workers");
+        }
+    }
 }
