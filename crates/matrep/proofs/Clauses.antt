@@ -92,7 +92,7 @@ module _ (q workers nodes split : ℕ) (orbits : Bool) (bytes text : List ℕ) w
       record { field = due.0; over = due.1; matroid = found.0; is_file = found.1; is = found.2 }
 
 -- the negative of a solve is a refutation, and its stop one for want of nodes
-negative_is : (f : Gf) (nodes split : ℕ) (orbits : Bool) (m : Presentation) (text : List ℕ) → Solves f nodes split orbits m Negative text → Refutes f m text
+negative_is : (f : Gf) (nodes split : ℕ) (orbits : Bool) (m : Presentation) (text : List ℕ) → Solves f nodes split orbits m Negative text → Refutes f nodes m text
 negative_is f nodes split true m text h = h
 negative_is f nodes split false m text h = h
 
@@ -113,7 +113,7 @@ orbits q workers nodes split bytes text allows =
     record { field = due.field; over = due.over; matroid = due.matroid; is_file = due.is_file; is = due.is }
 
 -- its log
-pub refuted : (q workers nodes split : ℕ) (b : Bool) (bytes text : List ℕ) → Allows (Solve q workers nodes split b) bytes Negative text → OfMatroid q Refutes bytes text
+pub refuted : (q workers nodes split : ℕ) (b : Bool) (bytes text : List ℕ) → Allows (Solve q workers nodes split b) bytes Negative text → OfMatroid q (λ f. Refutes f nodes) bytes text
 refuted q workers nodes split b bytes text allows =
     let due = solved q workers nodes split b bytes text Negative no_negative allows in
     record { field = due.field; over = due.over; matroid = due.matroid; is_file = due.is_file; is = negative_is due.field nodes split b due.matroid text due.is }

@@ -31,7 +31,7 @@ use Rattle.matrep.proofs.OneInput.{due_of_file, due_of_pair, due_of_matrix}
 use Rattle.matrep.proofs.OneAnswer.{same_field, Lists, not_empty, solved, checked, found, written, taken, counted}
 
 -- bytes that aren't too many are answered
-few : (command : Command) (bytes : List ℕ) (exit : Exit) (text : List ℕ) → length bytes ≤ limit_of command → Allows command bytes exit text → Answers command bytes exit text
+pub few : (command : Command) (bytes : List ℕ) (exit : Exit) (text : List ℕ) → length bytes ≤ limit_of command → Allows command bytes exit text → Answers command bytes exit text
 few command bytes exit text le (inl long) = absurd (omega (arith, le, long.0))
 few command bytes exit text le (inr answers) = answers.1
 
@@ -43,7 +43,7 @@ solves_end q workers nodes split orbits f m answer bytes text exit over file is_
     let same : due.0 ≡ f = same_field due.0 f (due.1 ∙ sym over) in
     by (solved f nodes split orbits m exit text goes (subst (λ (g : Gf). Solves g nodes split orbits m exit text) same (due_of_file bytes m (Solves due.0 nodes split orbits) exit text file due.2)))
   where
-    by : ((exit ≡ Done) × Lists orbits f nodes m text) ⊎ ((exit ≡ Negative) × Refutes f m text) → ((answer ≢ []) × (exit ≡ Done)) ⊎ ((answer ≡ []) × (exit ≡ Negative))
+    by : ((exit ≡ Done) × Lists orbits f nodes m text) ⊎ ((exit ≡ Negative) × Refutes f nodes m text) → ((answer ≢ []) × (exit ≡ Done)) ⊎ ((answer ≡ []) × (exit ≡ Negative))
     by (inl (done, lists)) = inl ((λ none. not_empty orbits f nodes m text lists (subst (IsAnswer m f) none is_answer)), done)
     by (inr (negative, refuted)) = inr (one-answer m f answer [] is_answer refuted.empty, negative)
 

@@ -35,9 +35,9 @@ few_triples n r le three =
 
 module _ (f : Gf) (m : Presentation) (plane : IsPlaneMatroid f m) (frame : Framed) (is : IsFrame frame) (matroid : frame.matroid ≡ m) (over : frame.field ≡ f) where
   -- no log refutes its matroid, which its matrix represents
-  pub plane_not_refuted : (log : Log) → IsRefutedBy frame log → ⊥
+  pub plane_not_refuted : (log : Log) → IsRefutedBy frame NODES log → ⊥
   plane_not_refuted log refuted =
-      (refutes frame log is refuted).none plane.matrix (plane.plane.field ∙ sym over)
+      (refutes frame NODES log (omega arith) is refuted).none plane.matrix (plane.plane.field ∙ sym over)
       (subst (λ (k : Presentation). Represents plane.matrix k) (sym matroid) (matrix-represents plane.matrix m plane.plane.grid plane.of_matrix))
 
   -- the forms are as many as the classes

@@ -12,7 +12,6 @@ use Rattle.mr_nogood.specs.Follows.{in_slots}
 use Rattle.mr_exchange.specs.declared.problem.Problem.{Problem}
 use Rattle.mr_exchange.specs.declared.answer.CubeAnswer.{CubeAnswer}
 use Rattle.mr_exchange.specs.declared.answer.CubeAnswer.TheVariants as answer
-use Rattle.mr_exchange.specs.declared.TheConstants.{NODES}
 use Rattle.mr_exchange.specs.Cubes.{IsProblemOf, problem_of}
 use Rattle.mr_exchange.specs.Closed.{ClosedIs, IsClosed}
 use Rattle.mr_exchange.specs.Right.{AreAnswers, AreCompletions}
@@ -62,13 +61,6 @@ merged_forms f m forms is told = subst (λ (k : Merged). MatchMerged k (λ xs. (
 -- what is merged to a log
 pub merged_log : (m : Merged) (log : Log) (P : List (List ℕ) → Type 0) (Q : Log → Type 0) → m ≡ Refuted log → MatchMerged m P Q → Q log
 merged_log m log P Q is told = subst (λ (k : Merged). MatchMerged k P Q) is told
-
--- a problem's budget
-pub few_nodes : (f : Framed) (problem : Problem) → IsProblemOf f problem → problem.nodes ≤ NODES
-few_nodes f problem of =
-    let is : problem.nodes ≡ of.nodes = ap (λ (p : Problem). p.nodes) of.is in
-    let few = of.few_nodes in
-    omega arith
 
 -- a search that was stopped at its budget
 pub spent_on : {A : Type 0} (f : Framed) (problem : Problem) (ran : Result A PoolStop) (stop : PoolStop) (closed : ClosedIs) (opened nodes split : ℕ) → problem ≡ problem_of f split nodes → IfErr ran (IsStop f problem) → ran ≡ Err stop → stop ≡ pool.Stopped closed → opened ≡ closed.opened → IsSpentOn f nodes split opened

@@ -54,7 +54,7 @@ Lists true = ListsOrbits
 
 -- a solve that isn't stopped lists what it found, or refutes
 abbrev pub Solved : Bool → Gf → ℕ → Presentation → Exit → List ℕ → Type 0
-Solved orbits f nodes m exit text = ((exit ≡ Done) × Lists orbits f nodes m text) ⊎ ((exit ≡ Negative) × Refutes f m text)
+Solved orbits f nodes m exit text = ((exit ≡ Done) × Lists orbits f nodes m text) ⊎ ((exit ≡ Negative) × Refutes f nodes m text)
 
 pub solved : (f : Gf) (nodes split : ℕ) (orbits : Bool) (m : Presentation) (exit : Exit) (text : List ℕ) → ¬ (IsStopped exit) → Solves f nodes split orbits m exit text → Solved orbits f nodes m exit text
 solved f nodes split false m Done text goes lists = inl (refl, lists)

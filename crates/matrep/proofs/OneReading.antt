@@ -15,6 +15,7 @@ use Rattle.matrep.specs.Words.{name_text, name_of, classes_word, IsOperand, AreO
 use Rattle.matrep.proofs.Keys.{one_name}
 use Rattle.matrep.proofs.Given.{one_value_given}
 use Rattle.matrep.proofs.Lists.{one_list, one_mask}
+use Rattle.mr_text.specs.declared.TheConstants.{NUMBERS}
 
 -- the orders of fields are small
 pub order-lt : (q : ℕ) → IsOrder q → q < 10
@@ -32,11 +33,11 @@ order-lt q (f, is) = subst (λ (n : ℕ). n < 10) is (small f)
 -- what a right list of operands means is one thing
 module _ (name : Name) (words : List (List ℕ)) (each : AreOperands name words (length words)) where
   -- one number is given to a key
-  one_given : (key : Key) (k j : ℕ) → k < 10 ^ 9 → j < 10 ^ 9 → Gives words key (decimal k) → Gives words key (decimal j) → k ≡ j
+  one_given : (key : Key) (k j : ℕ) → k < NUMBERS → j < NUMBERS → Gives words key (decimal k) → Gives words key (decimal j) → k ≡ j
   one_given key k j small low p q = decimal_injective k j (omega (arith, small)) (omega (arith, low)) (one_value_given name words each key (decimal k) (decimal j) p q)
 
   -- or its default is taken
-  one_number : (key : Key) (default k j : ℕ) → k < 10 ^ 9 → j < 10 ^ 9 → GivesNumber words key default k → GivesNumber words key default j → k ≡ j
+  one_number : (key : Key) (default k j : ℕ) → k < NUMBERS → j < NUMBERS → GivesNumber words key default k → GivesNumber words key default j → k ≡ j
   one_number key default k j small low (inl p) (inl q) = one_given key k j small low p q
   one_number key default k j small low (inl p) (inr q) = absurd (q.0 (decimal k, p))
   one_number key default k j small low (inr p) (inl q) = absurd (p.0 (decimal j, q))

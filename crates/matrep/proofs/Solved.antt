@@ -1,5 +1,5 @@
 -- From what a search over a frame ends with to what a solve ends with.
-use Rattle.std.proofs.Common.{◌≡◌, ℕ, List, [], refl, sym, subst, inl, Bool, true, false, Result, Ok, Err, arith}
+use Rattle.std.proofs.Common.{◌≡◌, ◌≤◌, ℕ, List, [], refl, sym, subst, inl, Bool, true, false, Result, Ok, Err, arith}
 use Rattle.std.specs.Prelude.{IfOk}
 use Rattle.mr_field.specs.Gf.{Gf, order}
 use Rattle.mr_set.specs.Matroid.{Presentation}
@@ -8,6 +8,7 @@ use Rattle.mr_frame.specs.Frame.{Framed, IsFrame}
 use Rattle.mr_file.specs.File.{IsFileOf}
 use Rattle.mr_log.specs.declared.log.Log.{Log}
 use Rattle.mr_log.specs.Log.{log_text}
+use Rattle.mr_exchange.specs.declared.TheConstants.{NODES}
 use Rattle.mr_merge.proofs.Answering.{forms_give_the_answer, no_form_no_representation}
 use Rattle.matrep.specs.Texts.{stopped_text}
 use Rattle.matrep.specs.Result.{OfFile}
@@ -21,8 +22,8 @@ use Rattle.matrep.specs.declared.outcome.Exit.TheVariants.{Negative, Stopped}
 use Rattle.matrep.proofs.LogLength.{log_length}
 
 -- the log that refutes a frame's forms refutes its matroid
-pub refutes : (f : Framed) (log : Log) → IsFrame f → IsRefutedBy f log → Refutes f.field f.matroid (log_text log)
-refutes f log frame refuted =
+pub refutes : (f : Framed) (nodes : ℕ) (log : Log) → nodes ≤ NODES → IsFrame f → IsRefutedBy f nodes log → Refutes f.field nodes f.matroid (log_text log)
+refutes f nodes log most frame refuted =
     let few = refuted.few in
     record {
       none = no_form_no_representation f frame (λ c form. member_none c ((refuted.none.exactly c).1 form));
@@ -30,6 +31,7 @@ refutes f log frame refuted =
       log = log;
       accepted = record { log = record { log = refuted.refutation.log; field = refuted.refutation.field; text = refl }; refutation = refuted.refutation.refutation };
       matroid = refuted.refutation.matroid;
+      few = few;
       within = log_length f.field log refuted.refutation.log refuted.refutation.field (omega arith);
       short = refuted.short;
     }
@@ -43,12 +45,12 @@ out_of_nodes f nodes split opened frame spent = record {
 }
 
 -- what is told of a log holds whether orbits are asked for or not
-pub negative_solves : (f : Gf) (nodes split : ℕ) (orbits : Bool) (m : Presentation) (text : List ℕ) → Refutes f m text → Solves f nodes split orbits m Negative text
+pub negative_solves : (f : Gf) (nodes split : ℕ) (orbits : Bool) (m : Presentation) (text : List ℕ) → Refutes f nodes m text → Solves f nodes split orbits m Negative text
 negative_solves f nodes split true m text refuted = refuted
 negative_solves f nodes split false m text refuted = refuted
 
 -- and the other way round
-pub solved_negative : (f : Gf) (nodes split : ℕ) (orbits : Bool) (m : Presentation) (text : List ℕ) → Solves f nodes split orbits m Negative text → Refutes f m text
+pub solved_negative : (f : Gf) (nodes split : ℕ) (orbits : Bool) (m : Presentation) (text : List ℕ) → Solves f nodes split orbits m Negative text → Refutes f nodes m text
 solved_negative f nodes split true m text refuted = refuted
 solved_negative f nodes split false m text refuted = refuted
 
@@ -84,7 +86,7 @@ pub searched_forms : (f : Framed) (nodes split : ℕ) (s : Searched) (forms : Li
 searched_forms f nodes split s forms is to = subst (IsSearchedTo f nodes split) is to
 
 -- one that ended with a log
-pub searched_log : (f : Framed) (nodes split : ℕ) (s : Searched) (log : Log) → s ≡ Refuted log → IsSearchedTo f nodes split s → IsRefutedBy f log
+pub searched_log : (f : Framed) (nodes split : ℕ) (s : Searched) (log : Log) → s ≡ Refuted log → IsSearchedTo f nodes split s → IsRefutedBy f nodes log
 searched_log f nodes split s log is to = subst (IsSearchedTo f nodes split) is to
 
 -- one that was stopped

@@ -31,6 +31,10 @@ use Rattle.matrep.specs.declared.outcome.Exit.{Exit}
 abbrev pub OneCommand : Type 0
 OneCommand = (words : List (List ℕ)) (c d : Command) → Says words c → Says words d → c ≡ d
 
+-- words say a command, or a place is the first that offends
+abbrev pub SaysOrOffends : List (List ℕ) → Type 0
+SaysOrOffends words = ((c : Command) × Says words c) ⊎ ((place : ℕ) × IsFirstOffence words place)
+
 -- words that say a command don't offend
 abbrev pub NoOffence : Type 0
 NoOffence = (words : List (List ℕ)) (c : Command) (place : ℕ) → Says words c → ¬ (IsFirstOffence words place)
@@ -56,11 +60,13 @@ OneEndIsDue =
     IsDue words (Some old) new exit text → IsDue words (Some old) rest end line → ¬ (IsStopped exit) → ¬ (IsStopped end) →
     (exit ≡ end) × (new ≡ rest) × (IsRefuted words exit ⊎ (text ≡ line))
 
--- a log that is written for the file of a matroid is within the checker's limit, and accepted when it is checked in turn
+-- a log that is written for the file of a matroid is within the checker's limit, and accepted when it is checked in turn: no other
+-- exit and text are allowed
 abbrev pub WrittenLogsAreAccepted : Type 0
 WrittenLogsAreAccepted =
     (q workers nodes split : ℕ) (orbits : Bool) (bytes text : List ℕ) →
-    Allows (Solve q workers nodes split orbits) bytes Negative text → Allows (Check q) text Done accepted_text
+    Allows (Solve q workers nodes split orbits) bytes Negative text →
+    Allows (Check q) text Done accepted_text × ((exit : Exit) (line : List ℕ) → Allows (Check q) text exit line → (exit ≡ Done) × (line ≡ accepted_text))
 
 -- n is the need of the matroid over the field for a split: how many nodes its frame has from the depth of the split on
 pub record IsNeedOf (f : Gf) (m : Presentation) (split n : ℕ) : Type 0 where

@@ -10,6 +10,7 @@ use Rattle.mr_frame.specs.Test.{IsFirstFailing}
 use Rattle.mr_nogood.specs.declared.row.Cite.TheVariants.{Test}
 use Rattle.mr_log.specs.declared.log.Log.{Log}
 use Rattle.mr_check.specs.Accepted.{IsAcceptedLog}
+use Rattle.mr_merge.specs.declared.TheConstants.{PREFIXES}
 use Rattle.mr_search.specs.Nodes.{IsNode, HoldsOfMany}
 use Rattle.mr_auto.specs.Orbits.{AreOrbitsOfAnswer}
 use Rattle.matrep.specs.Texts.{classes_text, orbits_text, stopped_text}
@@ -47,13 +48,15 @@ pub record IsShortLog (m : Presentation) (log : Log) : Type 0 where
   pub log_is : log ≡ short_log m set
 
 -- No matrix over the field represents the matroid, and the text is a log of this matroid that the checker accepts, no longer than
--- what it reads. Over two elements it is the short one.
-pub record Refutes (f : Gf) (m : Presentation) (text : List ℕ) : Type 0 where
+-- what it reads. It has no more steps than nodes and the most proper prefixes that cubes have. Over two elements it is the short
+-- one.
+pub record Refutes (f : Gf) (nodes : ℕ) (m : Presentation) (text : List ℕ) : Type 0 where
   pub none : HasNoRepresentation m f
   pub empty : IsAnswer m f []
   pub log : Log
   pub accepted : IsAcceptedLog f text log
   pub matroid : log.matroid ≡ m
+  pub few : length log.steps ≤ nodes + PREFIXES
   pub within : length text ≤ LOG_BYTES
   pub short : f ≡ gf2 → IsShortLog m log
 
@@ -74,6 +77,6 @@ pub record IsOutOfNodes (f : Gf) (m : Presentation) (nodes split opened : ℕ) (
 abbrev pub Solves : Gf → ℕ → ℕ → Bool → Presentation → Exit → List ℕ → Type 0
 Solves f nodes split false m Done text = ListsClasses f nodes m text
 Solves f nodes split true m Done text = ListsOrbits f nodes m text
-Solves f nodes split orbits m Negative text = Refutes f m text
+Solves f nodes split orbits m Negative text = Refutes f nodes m text
 Solves f nodes split orbits m (Stopped opened) text = IsOutOfNodes f m nodes split opened text
 Solves f nodes split orbits m exit text = ⊥

@@ -5,22 +5,21 @@ ghost use Rattle.mr_field.specs.Gf.{Gf, order};
 ghost use Rattle.matrep.specs.Answering.{Checks};
 
 use crate::LOG_BYTES;
+use crate::field::field_with;
 use crate::outcome::{Exit, Outcome};
 use mr_check::{CheckFault, check};
-use mr_field::Field;
 use mr_log::Why;
 use mr_text::Text;
 use std::alloc::{AllocError, Global};
 
-/// The exit and the text for the bytes of a log over the field with `q` elements.
+/// The exit and the text for the bytes of a log over the field with `q` elements, which is 2, 3, 4, 5, 7, 8 or 9: done where the
+/// log is accepted, else negative, with the first fault. At most `LOG_BYTES` bytes. Refused for want of memory alone.
 pub fn check_bytes(alloc: Global, bytes: &[u8], q: u8) -> Result<Outcome, AllocError>
     requires field { IsOrder q }
     requires limit { length bytes.now ≤ LOG_BYTES }
     ensures { IfOk result (λ o. (f : Gf) × (order f ≡ q) × Checks f bytes.now o.exit o.text) }
 {
-    let Some(field) = Field::of(u32::from(q)) else {
-        unreachable!();
-    };
+    let field = field_with(q);
     match check(alloc, bytes, field) {
         Ok(_) => accepted(alloc),
         Err(CheckFault::Rejected { line, why }) => rejected(alloc, line, why),

@@ -1,119 +1,320 @@
 // Devices that fail, or that give and take little.
-use crate::tests::status_of;
-use mr_file::FILE_BYTES;
-use mr_io::{MemSink, MemSource, SureSource};
+use crate::tests::{FANO, FOUR_POINTS, FOUR_POINTS_OVER_3, status_of};
+use mr_io::{MemSink, MemSource};
+use std::alloc::Global;
+use std::sync::Wait;
 use std::test::Fail;
+use std::thread::Threads;
 
-// Four points of a line: 43 bytes.
-const U24: &[u8] = b"matroid 1\nelements 4\nrank 2\nnonbases 0\nend\n";
+// How many bytes a source gives at a call and at which call it fails; how many a sink takes at a call and in all, and at which call it
+// fails. Calls are numbered from 1.
+#[derive(Clone, Copy)]
+struct Devices {
+    gives: usize,
+    read: u32,
+    takes: usize,
+    room: usize,
+    write: u32,
+}
 
-// Its matrix over three elements: 59 bytes.
-const U24_DONE: &[u8] = b"representations 1 field 3\nmatrix 3 2 4\n1 0 1 1\n0 1 1 2\nend\n";
+// A source that gives much and a sink that takes much, and never fail.
+const SURE: Devices = Devices {
+    gives: 4096,
+    read: 0,
+    takes: 4096,
+    room: 65536,
+    write: 0,
+};
 
-const WORDS: [&str; 2] = ["solve", "field=3"];
+// The status of a run with such devices, and a sink with what was written.
+fn run_with<R: Threads + Wait + Sync>(
+    rt: &R,
+    alloc: Global,
+    words: &str,
+    input: &[u8],
+    devices: &Devices,
+) -> Result<(u8, MemSink), Fail> {
+    if devices.gives == 0 || devices.takes == 0 {
+        return Err("devices that give and take".into());
+    }
+    let mut source = MemSource::new(alloc, input, devices.gives, [devices.read].as_slice())?;
+    let mut sink = MemSink::new(
+        alloc,
+        devices.takes,
+        devices.room,
+        [devices.write].as_slice(),
+    )?;
+    let status = status_of(rt, alloc, words, &mut source, &mut sink)?;
+    Ok((status, sink))
+}
 
-// A run reads 8 bytes at a call: six calls for the bytes, and one that gives nothing.
+// Whether it ends with this status and this text.
+fn ends_with<R: Threads + Wait + Sync>(
+    rt: &R,
+    alloc: Global,
+    words: &str,
+    input: &[u8],
+    devices: &Devices,
+    status: u8,
+    text: &[u8],
+) -> Result<bool, Fail> {
+    let (ended, sink) = run_with(rt, alloc, words, input, devices)?;
+    Ok(ended == status && sink.held() == text)
+}
+
+// Whether a solve of the four points does.
+fn solves_four_points<R: Threads + Wait + Sync>(
+    rt: &R,
+    alloc: Global,
+    devices: &Devices,
+    status: u8,
+    text: &[u8],
+) -> Result<bool, Fail> {
+    ends_with(
+        rt,
+        alloc,
+        "solve field=3",
+        FOUR_POINTS,
+        devices,
+        status,
+        text,
+    )
+}
+
+// How many bytes a source gives at a call, at which call it fails, and the status that a solve of the four points ends with: they are 43
+// bytes. A last call gives nothing, and a call after that isn't made.
+const READS: [(usize, u32, u8); 18] = [
+    (8, 1, 6),
+    (8, 2, 6),
+    (8, 3, 6),
+    (8, 4, 6),
+    (8, 5, 6),
+    (8, 6, 6),
+    (8, 7, 6),
+    (8, 8, 0),
+    (1, 1, 6),
+    (1, 43, 6),
+    (1, 44, 6),
+    (1, 45, 0),
+    (43, 1, 6),
+    (43, 2, 6),
+    (43, 3, 0),
+    (4096, 1, 6),
+    (4096, 2, 6),
+    (4096, 3, 0),
+];
+
 #[test]
 fn a_read_that_fails_ends_the_run_without_a_text(rt: HostRuntime) -> Result<(), Fail> {
-    let alloc = rt.alloc();
-    for call in 1..8_u32 {
-        let mut source = MemSource::new(alloc, U24, 8, [call].as_slice())?;
-        let mut sink = MemSink::new(alloc, 100, 4096, [].as_slice())?;
-        assert_eq!(rt; status_of(&rt, alloc, &WORDS, &mut source, &mut sink)?, 6);
-        assert_eq!(rt; sink.held(), b"".as_slice());
+    for (gives, read, status) in READS {
+        let devices = Devices {
+            gives,
+            read,
+            ..SURE
+        };
+        let text = if status == 0 { FOUR_POINTS_OVER_3 } else { b"" };
+        if !solves_four_points(&rt, rt.alloc(), &devices, status, text)? {
+            return Err("ends otherwise".into());
+        }
     }
     Ok(())
 }
 
-// The last call of each is the one that gives nothing, after the last byte. A fault that would come later doesn't come.
-#[test]
-fn a_source_may_give_little_or_all_at_once(rt: HostRuntime) -> Result<(), Fail> {
-    let alloc = rt.alloc();
-    let cases: [(usize, u32, u8, &[u8]); 7] = [
-        (8, 8, 0, U24_DONE),
-        (1, 43, 6, b""),
-        (1, 44, 6, b""),
-        (1, 45, 0, U24_DONE),
-        (43, 2, 6, b""),
-        (43, 3, 0, U24_DONE),
-        (4096, 3, 0, U24_DONE),
-    ];
-    for (piece, call, status, text) in cases {
-        let mut source = MemSource::new(alloc, U24, piece, [call].as_slice())?;
-        let mut sink = MemSink::new(alloc, 100, 4096, [].as_slice())?;
-        assert_eq!(rt;
-            status_of(&rt, alloc, &WORDS, &mut source, &mut sink)?,
-            status
-        );
-        assert_eq!(rt; sink.held(), text);
-    }
-    Ok(())
-}
+// How many bytes a sink takes at a call and in all, at which call it fails, and the status and the number of bytes that are written of
+// the class of the four points: they are 59 bytes.
+const WRITES: [(usize, usize, u32, u8, usize); 20] = [
+    (8, 4096, 1, 7, 0),
+    (8, 4096, 2, 7, 8),
+    (8, 4096, 3, 7, 16),
+    (8, 4096, 4, 7, 24),
+    (8, 4096, 5, 7, 32),
+    (8, 4096, 6, 7, 40),
+    (8, 4096, 7, 7, 48),
+    (8, 4096, 8, 7, 56),
+    (8, 4096, 9, 0, 59),
+    (1, 4096, 0, 0, 59),
+    (1, 4096, 59, 7, 58),
+    (59, 59, 2, 0, 59),
+    (59, 58, 0, 7, 58),
+    (100, 20, 0, 7, 20),
+    (1, 1, 0, 7, 1),
+    (1, 58, 0, 7, 58),
+    (8, 0, 0, 7, 0),
+    (58, 4096, 2, 7, 58),
+    (59, 4096, 1, 7, 0),
+    (100, 4096, 2, 0, 59),
+];
 
-// A sink that takes 8 bytes at a call takes the 59 bytes in eight calls.
 #[test]
 fn a_write_that_fails_leaves_what_was_written_before(rt: HostRuntime) -> Result<(), Fail> {
-    let alloc = rt.alloc();
-    for call in 1..10_u32 {
-        let mut source = SureSource::new(alloc, U24)?;
-        let mut sink = MemSink::new(alloc, 8, 4096, [call].as_slice())?;
-        let status = status_of(&rt, alloc, &WORDS, &mut source, &mut sink)?;
-        assert_eq!(rt; status, if call < 9 { 7 } else { 0 });
-        let written = (call as usize * 8 - 8).min(U24_DONE.len());
-        assert_eq!(rt; sink.held(), &U24_DONE[..written]);
+    for (takes, room, write, status, written) in WRITES {
+        let devices = Devices {
+            takes,
+            room,
+            write,
+            ..SURE
+        };
+        let text = &FOUR_POINTS_OVER_3[..written.min(FOUR_POINTS_OVER_3.len())];
+        if !solves_four_points(&rt, rt.alloc(), &devices, status, text)? {
+            return Err("ends otherwise".into());
+        }
     }
     Ok(())
 }
 
+// Words and an input, at which call of 4096 bytes the source fails and at which of 5 bytes the sink, and the status and the text.
+struct Failing {
+    words: &'static str,
+    input: &'static [u8],
+    read: u32,
+    write: u32,
+    status: u8,
+    text: &'static [u8],
+}
+
+const FAILING: [Failing; 8] = [
+    Failing {
+        words: "dual",
+        input: FOUR_POINTS,
+        read: 1,
+        write: 1,
+        status: 6,
+        text: b"",
+    },
+    Failing {
+        words: "solve field=2",
+        input: FANO,
+        read: 1,
+        write: 100,
+        status: 6,
+        text: b"",
+    },
+    Failing {
+        words: "solve field=2",
+        input: FANO,
+        read: 9,
+        write: 2,
+        status: 7,
+        text: b"repre",
+    },
+    Failing {
+        words: "solve field=3 workers=2",
+        input: FOUR_POINTS,
+        read: 2,
+        write: 1,
+        status: 6,
+        text: b"",
+    },
+    Failing {
+        words: "solve field=3 workers=2",
+        input: FOUR_POINTS,
+        read: 3,
+        write: 2,
+        status: 7,
+        text: b"repre",
+    },
+    // A text that is refused, and words that offend, are written like any other. Nothing is read for words that offend, nor for a plane.
+    Failing {
+        words: "dual",
+        input: b"",
+        read: 2,
+        write: 3,
+        status: 7,
+        text: b"refused gr",
+    },
+    Failing {
+        words: "solve field=6",
+        input: FOUR_POINTS,
+        read: 1,
+        write: 2,
+        status: 7,
+        text: b"usage",
+    },
+    Failing {
+        words: "plane order=2",
+        input: FOUR_POINTS,
+        read: 1,
+        write: 2,
+        status: 7,
+        text: b"plane",
+    },
+];
+
 #[test]
-fn a_sink_may_take_little_or_run_full(rt: HostRuntime) -> Result<(), Fail> {
-    let alloc = rt.alloc();
-    let cases: [(usize, usize, u8); 6] = [
-        (1, 4096, 0),
-        (59, 59, 0),
-        (59, 58, 7),
-        (100, 20, 7),
-        (1, 1, 7),
-        (8, 0, 7),
-    ];
-    for (piece, room, status) in cases {
-        let mut source = SureSource::new(alloc, U24)?;
-        let mut sink = MemSink::new(alloc, piece, room, [].as_slice())?;
-        assert_eq!(rt;
-            status_of(&rt, alloc, &WORDS, &mut source, &mut sink)?,
-            status
-        );
-        assert_eq!(rt; sink.held(), &U24_DONE[..room.min(U24_DONE.len())]);
+fn the_first_call_that_fails_is_told(rt: HostRuntime) -> Result<(), Fail> {
+    for case in &FAILING {
+        let devices = Devices {
+            read: case.read,
+            takes: 5,
+            write: case.write,
+            ..SURE
+        };
+        if !ends_with(
+            &rt,
+            rt.alloc(),
+            case.words,
+            case.input,
+            &devices,
+            case.status,
+            case.text,
+        )? {
+            return Err(case.words.into());
+        }
     }
     Ok(())
 }
 
-// A line of usage goes to the output like any other text, and nothing is read for it.
-#[test]
-fn words_that_offend_may_fail_at_the_output(rt: HostRuntime) -> Result<(), Fail> {
-    let alloc = rt.alloc();
-    let mut source = MemSource::new(alloc, U24, 8, [1].as_slice())?;
-    let mut sink = MemSink::new(alloc, 5, 4096, [2].as_slice())?;
-    let words = ["solve", "field=6"];
-    assert_eq!(rt; status_of(&rt, alloc, &words, &mut source, &mut sink)?, 7);
-    assert_eq!(rt; sink.held(), b"usage".as_slice());
-    Ok(())
-}
+// The 257th call of 4096 bytes gives the byte beyond the limit. What comes after it isn't asked for.
+const BEYOND: [(u32, u8, &[u8]); 2] = [(257, 6, b""), (258, 2, b"refused too long\n")];
 
-// One byte more than the limit is refused, unless the source fails before that byte; what comes after it isn't asked for.
 #[test]
 fn a_fault_of_the_source_goes_before_a_text_that_is_too_long(rt: HostRuntime) -> Result<(), Fail> {
-    let alloc = rt.alloc();
-    let input = vec![in alloc; b'a'; FILE_BYTES + 1]?;
-    let cases: [(u32, u8, &[u8]); 2] = [(257, 6, b""), (258, 2, b"refused too long\n")];
-    for (call, status, text) in cases {
-        let mut source = MemSource::new(alloc, &input, 4096, [call].as_slice())?;
-        let mut sink = MemSink::new(alloc, 100, 4096, [].as_slice())?;
-        assert_eq!(rt;
-            status_of(&rt, alloc, &WORDS, &mut source, &mut sink)?,
-            status
-        );
-        assert_eq!(rt; sink.held(), text);
+    let input = vec![in rt.alloc(); b'a'; 1_048_577]?;
+    for (read, status, text) in BEYOND {
+        let devices = Devices { read, ..SURE };
+        if !ends_with(
+            &rt,
+            rt.alloc(),
+            "solve field=3",
+            &input,
+            &devices,
+            status,
+            text,
+        )? {
+            return Err("ends otherwise".into());
+        }
     }
     Ok(())
+}
+
+// Whether the log of a solve, written in pieces of 7 bytes, is accepted when it is read in pieces of 5.
+fn is_accepted_in_pieces<R: Threads + Wait + Sync>(rt: &R, alloc: Global) -> Result<bool, Fail> {
+    let writing = Devices { takes: 7, ..SURE };
+    let (status, log) = run_with(rt, alloc, "solve field=3", FANO, &writing)?;
+    let reading = Devices {
+        gives: 5,
+        takes: 1,
+        ..SURE
+    };
+    Ok(
+        status == 1
+            && ends_with(
+                rt,
+                alloc,
+                "check field=3",
+                log.held(),
+                &reading,
+                0,
+                b"accepted\n",
+            )?,
+    )
+}
+
+#[test]
+fn a_log_goes_through_devices_that_take_and_give_little(rt: HostRuntime) -> Result<(), Fail> {
+    if is_accepted_in_pieces(&rt, rt.alloc())? {
+        Ok(())
+    } else {
+        Err("ends otherwise".into())
+    }
 }

@@ -1,8 +1,18 @@
-//! The laws of the program's words and ends, each the contract of a function without a body.
+//! The laws of the program's words and ends, each the contract of a function whose answer nobody needs.
 
-ghost use Rattle.matrep.specs.Laws.{OneCommand, NoOffence, OneOffence, OneEndIsDue};
+ghost use Rattle.matrep.specs.Words.{texts};
+ghost use Rattle.matrep.specs.Laws.{SaysOrOffends, OneCommand, NoOffence, OneOffence, OneEndIsDue};
 
-/// Words say one command, or one place is the first that offends, and never both.
+use crate::words::read_words;
+
+/// Words say a command, or one of their places is the first that offends.
+pub fn words_say_something(words: &[String])
+    ensures { SaysOrOffends (texts words.now) }
+{
+    let _read = read_words(words);
+}
+
+/// Words say one command at most, one place at most is the first that offends, and never both.
 pub fn words_say_one_thing()
     ensures command { OneCommand }
     ensures none { NoOffence }

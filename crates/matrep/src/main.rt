@@ -7,6 +7,7 @@ mod command_tests;
 #[cfg(test)]
 mod device_tests;
 mod ends;
+mod field;
 mod input;
 mod laws;
 #[cfg(test)]

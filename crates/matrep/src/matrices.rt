@@ -11,10 +11,10 @@ ghost use Rattle.matrep.specs.Result.{OfInput, IsFileFault, IsMatrixFault};
 ghost use Rattle.matrep.specs.Texts.{confirmed_text, differs_text};
 ghost use Rattle.matrep.specs.Answering.{Confirms, FindsMatroid};
 
+use crate::field::field_with;
 use crate::input::{file_of, refused_file};
 use crate::outcome::{Exit, Fault, Outcome};
 use crate::refusal::refused;
-use mr_field::Field;
 use mr_file::FILE_BYTES;
 use mr_linear::Matrix;
 use mr_matrix::{Confirm, MatrixFault, OfFault, Pair, confirm, matroid_of, read_matrix, read_pair};
@@ -22,15 +22,15 @@ use mr_set::Set;
 use mr_text::Text;
 use std::alloc::{AllocError, Global};
 
-/// The exit and the text for a matroid and a matrix over the field with `q` elements.
+/// The exit and the text for a matroid and a matrix over the field with `q` elements, which is 2, 3, 4, 5, 7, 8 or 9: done where the
+/// matrix represents the matroid, negative with the first set at which they differ, or the first fault of the bytes. At most
+/// `FILE_BYTES` bytes. Refused for want of memory alone.
 pub fn confirm_bytes(alloc: Global, bytes: &[u8], q: u8) -> Result<Outcome, AllocError>
     requires field { IsOrder q }
     requires limit { length bytes.now ≤ FILE_BYTES }
     ensures { IfOk result (λ o. (f : Gf) × (order f ≡ q) × OfInput (IsPairOf f bytes.now) (IsFileFault (IsPairRefusal f bytes.now)) Confirms o.exit o.text) }
 {
-    let Some(field) = Field::of(u32::from(q)) else {
-        unreachable!();
-    };
+    let field = field_with(q);
     match read_pair(alloc, bytes, field) {
         Ok(pair) => confirmation_of(alloc, &pair),
         Err(fault) => refused_file(alloc, fault),
@@ -77,15 +77,15 @@ fn differs(alloc: Global, set: Set) -> Result<Outcome, AllocError>
     })
 }
 
-/// The exit and the text for the matroid of a matrix over the field with `q` elements.
+/// The exit and the text for the matroid of a matrix over the field with `q` elements, which is 2, 3, 4, 5, 7, 8 or 9: its file, or
+/// the rank, where that is below the number of rows, or the first fault of the bytes. At most `FILE_BYTES` bytes. Refused for want
+/// of memory alone.
 pub fn matroid_bytes(alloc: Global, bytes: &[u8], q: u8) -> Result<Outcome, AllocError>
     requires field { IsOrder q }
     requires limit { length bytes.now ≤ FILE_BYTES }
     ensures { IfOk result (λ o. (f : Gf) × (order f ≡ q) × OfInput (IsBlockOf f bytes.now) (IsMatrixFault (IsMatrixRefusal f bytes.now)) FindsMatroid o.exit o.text) }
 {
-    let Some(field) = Field::of(u32::from(q)) else {
-        unreachable!();
-    };
+    let field = field_with(q);
     match read_matrix(alloc, bytes, field) {
         Ok(a) => represented(alloc, &a),
         Err(fault) => match fault_of(fault) {

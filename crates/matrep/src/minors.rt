@@ -10,7 +10,8 @@ use mr_matroid::Matroid;
 use mr_minor::{MinorFault, dual, minor};
 use std::alloc::{AllocError, Global};
 
-/// The exit and the text for the dual of the matroid of a file.
+/// The exit and the text for the dual of the matroid of a file: the file of the dual, or the first fault of the bytes. At most
+/// `FILE_BYTES` bytes. Refused for want of memory alone.
 pub fn dual_bytes(alloc: Global, bytes: &[u8]) -> Result<Outcome, AllocError>
     requires { length bytes.now ≤ FILE_BYTES }
     ensures { IfOk result (λ o. OfFile bytes.now WritesDual o.exit o.text) }
@@ -31,8 +32,9 @@ fn dual_of(alloc: Global, m: &Matroid) -> Result<Outcome, AllocError>
     }
 }
 
-/// The exit and the text for the minor of the matroid of a file, by the masks of the elements to delete and to contract. An
-/// element of both is contracted.
+/// The exit and the text for the minor of the matroid of a file, by the masks of the elements to delete and to contract: the file of
+/// the minor, the least number of the masks that is no element, or the first fault of the bytes. An element of both is contracted.
+/// At most `FILE_BYTES` bytes. Refused for want of memory alone.
 pub fn minor_bytes(
     alloc: Global,
     bytes: &[u8],

@@ -5,6 +5,7 @@ ghost use Rattle.matrep.specs.Texts.{plane_line};
 ghost use Rattle.matrep.specs.Answering.{CountsClasses, IsPlaneMatroid};
 
 use crate::PLANE_ORDER;
+use crate::field::field_with;
 use crate::listing::stopped;
 use crate::outcome::{Exit, Outcome};
 use crate::searching::{Searched, search_frame};
@@ -16,15 +17,14 @@ use mr_matroid::Matroid;
 use mr_text::Text;
 use std::alloc::{AllocError, Global};
 
-/// The exit and the text for the plane over the field with `q` elements.
+/// The exit and the text for the plane over the field with `q` elements, which is 2, 3, 4 or 5: the numbers of its elements, nonbases
+/// and classes over that field, or that it has more than `NODES` nodes. Refused for want of memory alone.
 pub fn plane_text(alloc: Global, q: u8) -> Result<Outcome, AllocError>
     requires field { IsOrder q }
     requires small { q ≤ PLANE_ORDER }
     ensures { IfOk result (λ o. (f : Gf) × (order f ≡ q) × CountsClasses f o.exit o.text) }
 {
-    let Some(field) = Field::of(u32::from(q)) else {
-        unreachable!();
-    };
+    let field = field_with(q);
     let a = plane_matrix(alloc, field)?;
     // Its clauses say how many columns there are at most.
     let _rows = a.rows();

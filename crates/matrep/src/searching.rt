@@ -27,7 +27,7 @@ pub enum Searched {
     Stopped { opened: u32 },
 }
 
-/// Searches over a frame with one worker.
+/// Searches over a frame with one worker, a split of at most `SPLIT` positions and 1 to `NODES` nodes. Refused for want of memory alone.
 pub fn search_frame(
     alloc: Global,
     frame: &Frame,
@@ -43,7 +43,7 @@ pub fn search_frame(
     searched_to(alloc, frame, problem, run_one(alloc, frame, problem))
 }
 
-/// The same with so many workers at once, each of which passes the gate after each call of its board.
+/// The same with 1 to `WORKERS` workers at once, each of which passes the gate after each call of its board.
 pub fn search_frame_by<R: Threads + Wait + Sync, G: Gate + Sync>(
     rt: &R,
     alloc: Global,

@@ -8,6 +8,7 @@ ghost use Rattle.matrep.specs.Solving.{Solves};
 ghost use Rattle.matrep.specs.Private.Searched.{IsSearchedTo};
 
 use crate::WORKERS;
+use crate::field::field_with;
 use crate::input::refused_file;
 use crate::listing::{list_classes, list_orbits, stopped};
 use crate::outcome::{Exit, Outcome};
@@ -22,8 +23,9 @@ use std::alloc::{AllocError, Global};
 use std::sync::Wait;
 use std::thread::Threads;
 
-/// The exit and the text of a solve over the field with `q` elements for the bytes of a file, with one worker, at most
-/// `nodes` nodes and a split of the first `split` positions.
+/// The exit and the text of a solve over the field with `q` elements for the bytes of a file, at most `FILE_BYTES` of them, with
+/// one worker. `q` is 2, 3, 4, 5, 7, 8 or 9. From 1 to `NODES` nodes are opened at most, and the first 0 to `SPLIT` free positions
+/// are split, or all where they are fewer. Bytes at fault are an exit too: this is refused for want of memory alone.
 pub fn solve_one(
     alloc: Global,
     bytes: &[u8],
@@ -39,16 +41,15 @@ pub fn solve_one(
     requires limit { length bytes.now ≤ FILE_BYTES }
     ensures { IfOk result (λ o. (f : Gf) × (order f ≡ q) × OfFile bytes.now (Solves f nodes split orbits) o.exit o.text) }
 {
-    let Some(field) = Field::of(u32::from(q)) else {
-        unreachable!();
-    };
+    let field = field_with(q);
     match read_matroid(alloc, bytes) {
         Ok(m) => solve_matroid(alloc, m, field, nodes, split, orbits),
         Err(fault) => refused_file(alloc, fault),
     }
 }
 
-/// The same with so many workers at once, each of which passes the gate after each call of its board. It waits for them.
+/// The same with 1 to `WORKERS` workers at once, each of which passes the gate after each call of its board. It waits for them, so
+/// it may not return.
 pub fn solve_many<R: Threads + Wait + Sync, G: Gate + Sync>(
     rt: &R,
     alloc: Global,
@@ -69,9 +70,7 @@ pub fn solve_many<R: Threads + Wait + Sync, G: Gate + Sync>(
     requires limit { length bytes.now ≤ FILE_BYTES }
     ensures { IfOk result (λ o. (f : Gf) × (order f ≡ q) × OfFile bytes.now (Solves f nodes split orbits) o.exit o.text) }
 {
-    let Some(field) = Field::of(u32::from(q)) else {
-        unreachable!();
-    };
+    let field = field_with(q);
     match read_matroid(alloc, bytes) {
         Ok(m) => solve_matroid_by(rt, alloc, m, field, workers, nodes, split, orbits, gate),
         Err(fault) => refused_file(alloc, fault),

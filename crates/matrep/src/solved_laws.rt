@@ -2,7 +2,7 @@
 
 ghost use Rattle.matrep.specs.Laws.{WrittenLogsAreAccepted, EnoughNodesSuffice, PowersSuffice, MatroidsHaveNeeds};
 
-/// A log that `solve` writes is accepted by `check`.
+/// A log that `solve` writes is accepted by `check`, which allows no other exit and text for it.
 pub fn written_logs_are_accepted()
     ensures { WrittenLogsAreAccepted }
 {}

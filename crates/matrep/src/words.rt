@@ -39,7 +39,8 @@ pub struct BadWord {
     pub word: u32,
 }
 
-/// The command that the words say: a command's name, and its operands in any order. It takes no memory.
+/// The command that the words say: a command's name, and its operands in any order; or the first place that offends, which is 0
+/// for no words and for another name, and the number of words where a key that is needed isn't given. It takes no memory.
 pub fn read_words(words: &[String]) -> Result<Command, BadWord>
     ensures says { MatchResult result (Says (texts words.now)) (λ e. IsFirstOffence (texts words.now) e.word) }
     ensures built { IfOk result IsBuilt }

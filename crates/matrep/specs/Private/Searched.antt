@@ -4,7 +4,6 @@ use Rattle.mr_field.specs.Gf.{gf2}
 use Rattle.mr_assign.specs.Assign.{no_values}
 use Rattle.mr_frame.specs.Frame.{Framed}
 use Rattle.mr_log.specs.declared.log.Log.{Log}
-use Rattle.mr_exchange.specs.declared.TheConstants.{NODES}
 use Rattle.mr_exchange.specs.Right.{AreCompletions}
 use Rattle.mr_merge.specs.declared.TheConstants.{PREFIXES}
 use Rattle.mr_merge.specs.Merged.{IsRefutationOf}
@@ -19,11 +18,12 @@ pub record AreForms (f : Framed) (nodes : ℕ) (forms : List (List ℕ)) : Type 
   pub some : forms ≢ []
   pub few : length forms ≤ nodes
 
--- there is no form, and the log is a refutation; over two elements it is the short one
-pub record IsRefutedBy (f : Framed) (log : Log) : Type 0 where
+-- There is no form, and the log is a refutation with no more steps than the nodes and the proper prefixes of cubes. Over two
+-- elements it is the short one.
+pub record IsRefutedBy (f : Framed) (nodes : ℕ) (log : Log) : Type 0 where
   pub none : AreCompletions f no_values []
   pub refutation : IsRefutationOf f log
-  pub few : length log.steps ≤ NODES + PREFIXES
+  pub few : length log.steps ≤ nodes + PREFIXES
   pub short : f.field ≡ gf2 → IsShortLog f.matroid log
 
 -- as many nodes were opened as the budget allows, and there are more
@@ -34,5 +34,5 @@ pub record IsSpentOn (f : Framed) (nodes split opened : ℕ) : Type 0 where
 -- what a search ends with
 abbrev pub IsSearchedTo : Framed → ℕ → ℕ → Searched → Type 0
 IsSearchedTo f nodes split (Forms forms) = AreForms f nodes forms
-IsSearchedTo f nodes split (Refuted log) = IsRefutedBy f log
+IsSearchedTo f nodes split (Refuted log) = IsRefutedBy f nodes log
 IsSearchedTo f nodes split (Stopped opened) = IsSpentOn f nodes split opened

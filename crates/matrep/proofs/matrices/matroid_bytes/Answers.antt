@@ -1,5 +1,4 @@
 -- what is told of the matrix, or of its refusal
-use Rattle.std.proofs.Common.{◌∙◌}
 use Rattle.mr_field.specs.Gf.{Gf}
 use Rattle.mr_matrix.specs.Block.{IsBlockOf}
 use Rattle.mr_matrix.specs.Reading.{IsMatrixRefusal}
@@ -10,16 +9,16 @@ use Rattle.matrep.proofs.matrices.matroid_bytes.Goals as goal
 
 pub returns-in-Ok : goal.returns-in-Ok
 returns-in-Ok c =
-    let f = c.in-Some.field in
+    let f = c.field_with-field.result in
     let bytes = c.args.bytes.now in
-    over_field (λ (g : Gf) o. OfInput (IsBlockOf g bytes) (IsMatrixFault (IsMatrixRefusal g bytes)) FindsMatroid o.exit o.text) f c.args.q c.represented.result (c.in-Some.ensures.order ∙ c.from.ensures)
+    over_field (λ (g : Gf) o. OfInput (IsBlockOf g bytes) (IsMatrixFault (IsMatrixRefusal g bytes)) FindsMatroid o.exit o.text) f c.args.q c.represented.result c.field_with-field.ensures
     (input_read (λ o. o.exit) (λ o. o.text) (IsBlockOf f bytes) (IsMatrixFault (IsMatrixRefusal f bytes)) FindsMatroid c.in-Ok.a c.represented.result c.in-Ok.ensures.ok c.represented.ensures)
 
-pub returns-in-Some-fault_of : goal.returns-in-Some-fault_of
-returns-in-Some-fault_of c =
-    let f = c.in-Some.field in
+pub returns-in-Some : goal.returns-in-Some
+returns-in-Some c =
+    let f = c.field_with-field.result in
     let bytes = c.args.bytes.now in
-    let fault = c.in-Some-fault_of.fault in
-    over_field (λ (g : Gf) o. OfInput (IsBlockOf g bytes) (IsMatrixFault (IsMatrixRefusal g bytes)) FindsMatroid o.exit o.text) f c.args.q c.refused.result (c.in-Some.ensures.order ∙ c.from.ensures)
+    let fault = c.in-Some.fault in
+    over_field (λ (g : Gf) o. OfInput (IsBlockOf g bytes) (IsMatrixFault (IsMatrixRefusal g bytes)) FindsMatroid o.exit o.text) f c.args.q c.refused.result c.field_with-field.ensures
     (input_refused (λ o. o.exit) (λ o. o.text) (IsBlockOf f bytes) (IsMatrixFault (IsMatrixRefusal f bytes)) FindsMatroid c.refused.result
-    (refuses (λ o. o.exit) (λ o. o.text) (IsMatrixFault (IsMatrixRefusal f bytes)) fault c.refused.result (matrix_fault (IsMatrixRefusal f bytes) c.in-Err.fault fault c.in-Err.ensures.refusal c.in-Some-fault_of.ensures) c.refused.ensures.exit c.refused.ensures.text))
+    (refuses (λ o. o.exit) (λ o. o.text) (IsMatrixFault (IsMatrixRefusal f bytes)) fault c.refused.result (matrix_fault (IsMatrixRefusal f bytes) c.in-Err.fault fault c.in-Err.ensures.refusal c.in-Some.ensures) c.refused.ensures.exit c.refused.ensures.text))

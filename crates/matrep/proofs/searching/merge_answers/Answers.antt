@@ -7,7 +7,7 @@ use Rattle.mr_exchange.specs.Right.{AreCompletions}
 use Rattle.mr_merge.specs.declared.TheConstants.{PREFIXES}
 use Rattle.mr_merge.specs.Answers.{HasFound}
 use Rattle.mr_merge.specs.Merged.{IsRefutationOf}
-use Rattle.matrep.proofs.Found.{few_forms, few_nodes, merged_forms, merged_log}
+use Rattle.matrep.proofs.Found.{few_forms, merged_forms, merged_log}
 use Rattle.matrep.proofs.Shortest.{short_log_is}
 use Rattle.matrep.proofs.searching.merge_answers.Goals as goal
 
@@ -28,11 +28,10 @@ returns-in-Refuted c = λ split.
     let answers = c.args.answer.now.answers in
     let refutation = merged_log c.in-Ok.merged log (λ forms. Unit {0}) (IsRefutationOf f) c.in-Refuted.is c.in-Ok.ensures.refutation in
     let steps = merged_log c.in-Ok.merged log (λ forms. Unit {0}) (λ (l : Log). length l.steps ≤ c.args.problem.nodes + PREFIXES) c.in-Refuted.is c.in-Ok.ensures.steps in
-    let nodes = few_nodes f c.args.problem c.requires.problem in
     record {
       none = merged_log c.in-Ok.merged log _ (λ (l : Log). AreCompletions f no_values []) c.in-Refuted.is c.in-Ok.ensures.forms;
       refutation = refutation;
-      few = omega arith;
+      few = steps;
       short = λ two. short_log_is f c.args.problem c.args.answer.now.closed answers c.requires.problem c.requires.closed c.opened-opened.ensures.shown c.requires.answers c.requires.first two log refutation
           (merged_log c.in-Ok.merged log (λ forms. HasFound answers) (λ (l : Log). HasFound answers → ⊥) c.in-Refuted.is c.in-Ok.ensures.found)
           (λ x depth is. merged_log c.in-Ok.merged log (λ forms. Unit {0}) (λ (l : Log). (l.steps ≡ []) × (l.last ≡ Test x)) c.in-Refuted.is (c.in-Ok.ensures.set x depth is));

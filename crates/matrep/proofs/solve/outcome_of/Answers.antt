@@ -31,9 +31,9 @@ returns-in-Refuted c =
     let nodes = c.args.nodes in
     let split = c.args.split in
     let log = c.in-Refuted.log in
-    let refuted = refutes f log c.basis-basis.ensures.frame (searched_log f nodes split c.args.searched log c.in-Refuted.is c.requires.searched) in
+    let refuted = refutes f nodes log c.requires.few_nodes c.basis-basis.ensures.frame (searched_log f nodes split c.args.searched log c.in-Refuted.is c.requires.searched) in
     outcome_told (λ o. o.exit) (λ o. o.text) (Solves f.field nodes split c.args.orbits f.matroid) Negative (λ (t : List ℕ). t ≡ log_text log) c.refuted.result c.refuted.ensures.exit c.refuted.ensures.text
-    (λ t is. negative_solves f.field nodes split c.args.orbits f.matroid t (subst (Refutes f.field f.matroid) (sym is) refuted))
+    (λ t is. negative_solves f.field nodes split c.args.orbits f.matroid t (subst (Refutes f.field nodes f.matroid) (sym is) refuted))
 
 pub returns : goal.returns
 returns c =

@@ -1,5 +1,4 @@
 -- what is told of the matroid of the file, or of its refusal
-use Rattle.std.proofs.Common.{◌∙◌}
 use Rattle.mr_field.specs.Gf.{Gf}
 use Rattle.mr_file.specs.File.{IsFileOf}
 use Rattle.mr_file.specs.Reading.{IsFileRefusal}
@@ -11,13 +10,13 @@ use Rattle.matrep.proofs.solve.solve_one.Goals as goal
 
 pub returns-in-Ok : goal.returns-in-Ok
 returns-in-Ok c =
-    solved_file (λ o. o.exit) (λ o. o.text) c.in-Some.field c.args.q c.args.nodes c.args.split c.args.orbits c.args.bytes.now c.in-Ok.m c.solve_matroid.result (c.in-Some.ensures.order ∙ c.from.ensures) c.in-Ok.ensures.ok c.solve_matroid.ensures
+    solved_file (λ o. o.exit) (λ o. o.text) c.field_with-field.result c.args.q c.args.nodes c.args.split c.args.orbits c.args.bytes.now c.in-Ok.m c.solve_matroid.result c.field_with-field.ensures c.in-Ok.ensures.ok c.solve_matroid.ensures
 
 pub returns-in-Err : goal.returns-in-Err
 returns-in-Err c =
-    let f = c.in-Some.field in
+    let f = c.field_with-field.result in
     let bytes = c.args.bytes.now in
     let solves = Solves f c.args.nodes c.args.split c.args.orbits in
-    over_field (λ (g : Gf) o. OfFile bytes (Solves g c.args.nodes c.args.split c.args.orbits) o.exit o.text) f c.args.q c.refused_file.result (c.in-Some.ensures.order ∙ c.from.ensures)
+    over_field (λ (g : Gf) o. OfFile bytes (Solves g c.args.nodes c.args.split c.args.orbits) o.exit o.text) f c.args.q c.refused_file.result c.field_with-field.ensures
     (input_refused (λ o. o.exit) (λ o. o.text) (IsFileOf bytes) (IsFileFault (IsFileRefusal bytes)) solves c.refused_file.result
     (refused_as_file (λ o. o.exit) (λ o. o.text) (IsFileRefusal bytes) c.in-Err.fault c.refused_file.result c.in-Err.ensures.refusal c.refused_file.ensures))
