@@ -180,14 +180,17 @@ count_below_no ws p lt none =
     count_by_more_no (λ v. nat_lt 0 v) (nibbles ws) p 0 (let n = length-nibbles ws in omega arith)
     (ap (nat_lt 0) (get_or-nibbles ws p lt) ∙ (let e : nibble_at ws p ≡ 0 = omega arith in ap (nat_lt 0) e))
 
--- a word of zeros counts nothing
+-- a word of zeros has no value
+pub no_nibble : (ws : List ℕ) (k : ℕ) → get_or ws (k / 16) 0 ≡ 0 → nibble_at ws k ≡ 0
+no_nibble ws k none = ap (λ (w : ℕ). w / 2 ^ (4 * (k % 16)) % 16) none ∙ ap (λ (w : ℕ). w % 16) (zero-div (2 ^ (4 * (k % 16))))
+
+-- so it counts nothing
 pub count_below_skip : (ws : List ℕ) (i n : ℕ) → i < 6 → n ≤ 16 → get_or ws i 0 ≡ 0 → count_below ws (16 * i + n) ≡ count_below ws (16 * i)
 count_below_skip ws i zero small le none = ap (count_below ws) (let e : 16 * i + 0 ≡ 16 * i = omega arith in e)
 count_below_skip ws i (suc n) small le none =
     let next : 16 * i + suc n ≡ (16 * i + n) + 1 = omega arith in
     let word : (16 * i + n) / 16 ≡ i = omega arith in
-    let zero_word : get_or ws ((16 * i + n) / 16) 0 ≡ 0 = ap (λ (k : ℕ). get_or ws k 0) word ∙ none in
-    let nothing : nibble_at ws (16 * i + n) ≡ 0 = ap (λ (w : ℕ). w / 2 ^ (4 * ((16 * i + n) % 16)) % 16) zero_word ∙ ap (λ (w : ℕ). w % 16) (zero-div (2 ^ (4 * ((16 * i + n) % 16)))) in
+    let nothing = no_nibble ws (16 * i + n) (ap (λ (k : ℕ). get_or ws k 0) word ∙ none) in
     ap (count_below ws) next ∙ count_below_no ws (16 * i + n) (omega arith) (omega arith) ∙ count_below_skip ws i n small (omega arith) none
 
 -- below the last position all values are counted

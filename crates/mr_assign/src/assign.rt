@@ -1,4 +1,4 @@
-ghost use Rattle.std.specs.Prelude.{◌≡◌, ◌↔◌, ◌+◌, ◌*◌, ◌<◌, ◌≤◌, ℕ, Any, IsTrue, IsNone, IfSome, count_by, nat_lt, slice_index, slice_set, take};
+ghost use Rattle.std.specs.Prelude.{◌≡◌, ◌↔◌, ◌+◌, ◌*◌, ◌<◌, ◌≤◌, ℕ, Any, IsTrue, MatchBool, IsNone, IfSome, count_by, nat_lt, slice_index, slice_set, take};
 ghost use Rattle.mr_assign.specs.Assign.{IsAssign, IsPartOf, IsConflict, no_values, map_union};
 ghost use Rattle.mr_assign.specs.Packing.{nibbles, nibble_at, map_words};
 ghost use Rattle.mr_assign.specs.Private.Packing.{IsPacking};
@@ -54,8 +54,8 @@ impl Assign {
         ensures none { IsNone result ↔ Any (λ v. VALUES < v) (nibbles words) }
         ensures some { IfSome result (λ a. a ≡ nibbles words) }
     {
-        for p in 0..POSITIONS {
-            if nibble_at(&words, p) > VALUES {
+        for i in 0..CLAUSE_WORDS as u32 {
+            if !fits(&words, i) {
                 return None;
             }
         }
@@ -154,6 +154,22 @@ fn count_to(words: &[u64; CLAUSE_WORDS], i: u32, before: u32) -> u32
         }
     }
     count
+}
+
+// Whether no nibble of this word is above `VALUES`. A word of zeros is passed.
+fn fits(words: &[u64; CLAUSE_WORDS], i: u32) -> bool
+    requires { i < CLAUSE_WORDS }
+    ensures { MatchBool result ((k : ℕ) → 16 * i ≤ k → k < 16 * i + 16 → nibble_at words.now k ≤ VALUES) (Any (λ v. VALUES < v) (nibbles words.now)) }
+{
+    if words[i as usize] == 0 {
+        return true;
+    }
+    for p in 16 * i..16 * i + 16 {
+        if nibble_at(words, p) > VALUES {
+            return false;
+        }
+    }
+    true
 }
 
 fn nibble_at(words: &[u64; CLAUSE_WORDS], p: u32) -> u8

@@ -18,6 +18,7 @@ pub mod Trying
 pub mod CubesInOrder
 pub mod Digits
 pub mod Holding
+pub mod Filling
 pub mod Bounds
 pub mod Changing
 pub mod Scanning

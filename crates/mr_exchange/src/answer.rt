@@ -1,5 +1,4 @@
-ghost use Rattle.std.specs.Prelude.{◌≡◌, [], ◌∷◌, ◌++◌, ◌<◌, length, slice_set, IfOk, OnOk, OnErr, replicate, option_copied};
-ghost use Rattle.mr_nogood.specs.Follows.{in_slots};
+ghost use Rattle.std.specs.Prelude.{◌≡◌, [], ◌∷◌, ◌++◌, OnOk, OnErr};
 
 use mr_assign::AssignList;
 use mr_nogood::{Cite, Row};
@@ -81,45 +80,6 @@ impl SlotList {
         }
     }
 
-    // An empty list with room for n places.
-    fn with_room(alloc: Global, n: u32) -> Result<SlotList, AllocError>
-        ensures { IfOk result (λ list. list ≡ []) }
-    {
-        match Vec::with_capacity(alloc, n as usize) {
-            Ok(items) => Ok(SlotList { items }),
-            Err(e) => Err(e),
-        }
-    }
-
-    // A list of n slots without rows.
-    pub(crate) fn of_slots(alloc: Global, n: u32) -> Result<SlotList, AllocError>
-        ensures { IfOk result (λ list. list ≡ replicate n None) }
-    {
-        let mut list = SlotList::with_room(alloc, n)?;
-        for _i in 0..n {
-            list.push(None)?;
-        }
-        Ok(list)
-    }
-
-    // The row of a slot, if there is one.
-    pub(crate) fn row(&self, slot: u32) -> Option<&Row>
-        ensures { option_copied result ≡ in_slots self.now slot }
-    {
-        match self.items.get(slot as usize) {
-            Some(found) => found.as_ref(),
-            None => None,
-        }
-    }
-
-    // Puts a row in a slot.
-    pub(crate) fn set(&mut self, slot: u32, row: &Row)
-        requires { slot < length self.old }
-        ensures { self.new ≡ slice_set self.old slot (Some row.now) }
-    {
-        self.items[slot as usize] = Some(*row);
-    }
-
     /// What is refused is given up.
     pub fn push(&mut self, item: Option<Row>) -> Result<(), AllocError>
         ensures ok { OnOk result (self.new ≡ self.old ++ item ∷ []) }
@@ -133,5 +93,12 @@ impl SlotList {
         ensures { result.now ≡ self.now }
     {
         &self.items
+    }
+
+    // The slots themselves.
+    pub(crate) fn into_items(self) -> Vec<Option<Row>>
+        ensures { result.items ≡ self }
+    {
+        self.items
     }
 }

@@ -2,6 +2,7 @@ ghost use Rattle.std.specs.Prelude.{◌≡◌, IfSome};
 ghost use Rattle.mr_nogood.specs.Follows.{in_slots, Excludes};
 ghost use Rattle.mr_exchange.specs.Closed.{closed_is, IsShown, IsClosed};
 
+use crate::slots::Slots;
 use crate::{Problem, SlotList};
 use mr_frame::Frame;
 use mr_nogood::Row;
@@ -15,7 +16,7 @@ pub struct Closed {
     problem: Problem,
     opened: u32,
     claimed: u32,
-    rows: SlotList,
+    rows: Slots,
 }
 
 impl Model for Closed {
@@ -37,6 +38,20 @@ impl Closed {
         opened: u32,
         claimed: u32,
         rows: SlotList,
+    ) -> Closed
+        requires { IsShown (closed_is frame.now problem opened claimed rows) }
+        ensures { result ≡ closed_is frame.now problem opened claimed rows }
+    {
+        Closed::of_board(frame, problem, opened, claimed, Slots::of_list(rows))
+    }
+
+    // The same of slots.
+    pub(crate) fn of_board(
+        frame: &Frame,
+        problem: Problem,
+        opened: u32,
+        claimed: u32,
+        rows: Slots,
     ) -> Closed
         requires { IsShown (closed_is frame.now problem opened claimed rows) }
         ensures { result ≡ closed_is frame.now problem opened claimed rows }

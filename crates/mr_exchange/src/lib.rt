@@ -14,6 +14,7 @@ mod pass;
 mod plain;
 mod problem;
 mod replaying;
+mod slots;
 mod state;
 #[cfg(test)]
 mod tests;

@@ -8,7 +8,8 @@ ghost use Rattle.mr_exchange.specs.Board.{Holding, new_holding, BoardFacts, CanO
 ghost use Rattle.mr_exchange.specs.Closed.{closed_is};
 ghost use Rattle.mr_exchange.specs.Plain.{PlainIs, plain_holding, IsPlainPass};
 
-use crate::{Board, Closed, LOOKS, Look, Problem, SHORT, SlotList, Ticket};
+use crate::slots::Slots;
+use crate::{Board, Closed, LOOKS, Look, Problem, SHORT, Ticket};
 use mr_assign::Assign;
 use mr_frame::Frame;
 use mr_nogood::{Row, head_of};
@@ -22,7 +23,7 @@ pub struct PlainBoard<'f> {
     problem: Problem,
     cubes: Vec<u32>,
     tickets: Vec<Ticket>,
-    rows: SlotList,
+    rows: Slots,
     looks: u32,
     last_head: u64,
     cursor: u32,
@@ -56,7 +57,7 @@ impl<'f> PlainBoard<'f> {
         let _basis = frame.basis();
         let cubes = Vec::with_capacity(alloc, problem.cubes as usize)?;
         let tickets = Vec::with_capacity(alloc, problem.nodes as usize)?;
-        let rows = SlotList::of_slots(alloc, problem.nodes)?;
+        let rows = Slots::of_count(alloc, problem.nodes)?;
         Ok(PlainBoard {
             frame,
             problem,
@@ -77,7 +78,7 @@ impl<'f> PlainBoard<'f> {
     {
         let opened = self.tickets.len() as u32;
         let claimed = self.claimed();
-        Closed::of_parts(self.frame, self.problem, opened, claimed, self.rows)
+        Closed::of_board(self.frame, self.problem, opened, claimed, self.rows)
     }
 
     // How many cubes were claimed.

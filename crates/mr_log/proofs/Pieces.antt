@@ -1,8 +1,14 @@
 -- The text of a log, piece by piece.
-use Rattle.std.proofs.Common.{◌≡◌, ◌≢◌, ℕ, zero, suc, ◌+◌, ◌<◌, List, [], ◌∷◌, ◌++◌, length, take, get_or, map, refl, sym, ap, ◌∙◌, Bool, true, false, arith, append_assoc, append-nil, codes, Result, Ok, Err}
-use Rattle.std.specs.Prelude.{decimal, OnOk}
+use Rattle.std.proofs.Common.{◌≡◌, ◌≢◌, ℕ, zero, suc, ◌+◌, ◌*◌, ◌<◌, ◌≤◌, List, [], ◌∷◌, ◌++◌, length, take, get_or, map, refl, sym, ap, ◌∙◌, Bool, true, false, arith, append_assoc, append-nil, codes, Result, Ok, Err}
+use Rattle.std.specs.Prelude.{◌/◌, ◌%◌, ◌^◌, decimal, OnOk}
 use Rattle.std.specs.List.{join_with_byte}
 use Rattle.std.proofs.lemmas.List.{take_more, map-append, length-take-le}
+use Rattle.std.proofs.Math.Nat.{zero-div}
+use Rattle.mr_assign.specs.declared.TheConstants.{POSITIONS}
+use Rattle.mr_assign.specs.Assign.{IsAssign}
+use Rattle.mr_assign.specs.Packing.{nibble, map_words}
+use Rattle.mr_assign.proofs.Maps.{value-view}
+use Rattle.mr_assign.proofs.Masks.{nibbles-words_of}
 use Rattle.mr_text.specs.Text.{text_of_lines}
 use Rattle.mr_text.proofs.Listings.{lines-append}
 use Rattle.mr_file.specs.File.{file_lines, file_text}
@@ -49,6 +55,27 @@ pair_texts-take a p lt =
 -- a value that is none
 pub pairs_same : (a : List ℕ) (p v : ℕ) → p < length a → v ≡ get_or a p 0 → v ≡ 0 → pair_texts 0 (take (p + 1) a) ≡ pair_texts 0 (take p a)
 pairs_same a p v lt is none = pair_texts-take a p lt ∙ ap (λ x. pair_texts 0 (take p a) ++ pair_texts p (x ∷ [])) (sym is ∙ none) ∙ append-nil (pair_texts 0 (take p a))
+
+-- values that are none
+pub pairs_none : (a : List ℕ) (p n : ℕ) → p + n ≤ length a → ((k : ℕ) → k < n → get_or a (p + k) 0 ≡ 0) → pair_texts 0 (take (p + n) a) ≡ pair_texts 0 (take p a)
+pairs_none a p zero le none = ap (λ k. pair_texts 0 (take k a)) (let e : p + 0 ≡ p = omega arith in e)
+pairs_none a p (suc n) le none =
+    ap (λ k. pair_texts 0 (take k a)) (let e : p + suc n ≡ (p + n) + 1 = omega arith in e)
+    ∙ pairs_same a (p + n) (get_or a (p + n) 0) (omega arith) refl (none n (omega arith))
+    ∙ pairs_none a p n (omega arith) (λ k lt. none k (omega arith))
+
+-- a word of zeros gives no value
+pub zero_word : (a : List ℕ) → IsAssign a → (p : ℕ) → p % 16 ≡ 0 → p + 16 ≤ POSITIONS → get_or (map_words a) (p / 16) 0 ≡ 0 → (k : ℕ) → k < 16 → get_or a (p + k) 0 ≡ 0
+zero_word a h p start small none k low =
+    let word : (p + k) / 16 ≡ p / 16 = omega arith in
+    sym (value-view (map_words a) a (p + k) (nibbles-words_of a h) (omega arith))
+    ∙ ap (λ (i : ℕ). nibble (get_or (map_words a) i 0) ((p + k) % 16)) word
+    ∙ ap (λ (w : ℕ). nibble w ((p + k) % 16)) none
+    ∙ ap (λ (w : ℕ). w % 16) (zero-div (2 ^ (4 * ((p + k) % 16))))
+
+-- so it has no pairs
+pub pairs_of_zeros : (a : List ℕ) → IsAssign a → (p : ℕ) → p % 16 ≡ 0 → p + 16 ≤ POSITIONS → get_or (map_words a) (p / 16) 0 ≡ 0 → pair_texts 0 (take (p + 16) a) ≡ pair_texts 0 (take p a)
+pairs_of_zeros a h p start small none = pairs_none a p 16 (let n = h.positions in omega arith) (zero_word a h p start small none)
 
 -- a value that is one
 pub pairs_more : (a : List ℕ) (p v : ℕ) → p < length a → v ≡ get_or a p 0 → v ≢ 0 → pair_texts 0 (take (p + 1) a) ≡ pair_texts 0 (take p a) ++ pair_text p v ∷ []

@@ -72,12 +72,20 @@ fn write_clause(a: &Assign, out: &mut Text) -> Result<(), AllocError>
     ensures { OnOk result (out.new ≡ out.old ++ clause_text a.now) }
 {
     let mut first = true;
-    for p in 0..POSITIONS {
+    let words = a.words();
+    let mut p = 0;
+    while p < POSITIONS {
+        // A word of zeros has no pairs.
+        if p % 16 == 0 && words[p as usize / 16] == 0 {
+            p += 16;
+            continue;
+        }
         let v = a.get(p);
         if v != 0 {
             write_pair(first, p, v, out)?;
             first = false;
         }
+        p += 1;
     }
     if first {
         return out.put(b"-");
@@ -91,7 +99,7 @@ fn write_pair(first: bool, p: u32, v: u8, out: &mut Text) -> Result<(), AllocErr
 {
     write_gap(first, out)?;
     out.put_number(p)?;
-    out.put(b":")?;
+    out.put_byte(b':')?;
     out.put_number(u32::from(v))
 }
 
@@ -101,7 +109,7 @@ fn write_gap(first: bool, out: &mut Text) -> Result<(), AllocError>
     if first {
         return Ok(());
     }
-    out.put(b" ")
+    out.put_byte(b' ')
 }
 
 // The cites for the values of the field with `q` elements.

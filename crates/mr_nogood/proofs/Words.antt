@@ -176,9 +176,13 @@ read_all words clause cites size clause_is count reads =
     reads j (omega arith) ∙ ap cite_of (sym (get_or-drop 7 words j 0)) ∙ sym (get_or-map cite_of (drop 7 words) j 0 Nothing (omega (arith, length-drop 7 words)))) in
     ap (λ c. made (get_or words 0 0 % 2 ^ 32) (get_or words 0 0 / 2 ^ 32 % 2 ^ 8) c cites) clause_is ∙ ap (made (get_or words 0 0 % 2 ^ 32) (get_or words 0 0 / 2 ^ 32 % 2 ^ 8) (nibbles (slice_range words 1 7))) back
 
--- the words of a row are those of what is read from them
+-- the words of a row give that row
+pub is_unpacked : (words : List ℕ) (r row : Row) → r ≡ unpacked words → IsRow row → words ≡ row_packing row → r ≡ row
+is_unpacked words r row is good same = is ∙ ap unpacked same ∙ unpacked-packed row good
+
+-- so its words are those of what is read from them
 pub packed-unpacked : (words : List ℕ) (r row : Row) → r ≡ unpacked words → IsRow row → words ≡ row_packing row → row_packing r ≡ words
-packed-unpacked words r row is good same = ap row_packing (is ∙ ap unpacked same ∙ unpacked-packed row good) ∙ sym same
+packed-unpacked words r row is good same = ap row_packing (is_unpacked words r row is good same) ∙ sym same
 
 -- and no nibble of the clause's words is above the values
 pub none_large : (words : List ℕ) (row : Row) → IsRow row → words ≡ row_packing row → Any (λ v. VALUES < v) (nibbles (slice_range words 1 7)) → ⊥

@@ -12,7 +12,7 @@ mod tests;
 pub use following::{fails, follows, follows_steps};
 pub use list::RowList;
 use mr_assign::VALUES;
-pub use packing::{head_of, pack, unpack};
+pub use packing::{head_of, pack, row_of, unpack};
 pub use row::{Cite, Row};
 
 /// The cites of a row, one for each value.

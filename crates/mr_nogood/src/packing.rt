@@ -1,5 +1,5 @@
-ghost use Rattle.std.specs.Prelude.{◌≡◌, ◌≢◌, ◌<◌, ◌≤◌, ◌^◌, ◌+◌, ◌*◌, IsNone, IfSome, slice_range};
-ghost use Rattle.mr_assign.specs.declared.TheConstants.{POSITIONS};
+ghost use Rattle.std.specs.Prelude.{◌≡◌, ◌≢◌, ◌↔◌, ◌<◌, ◌≤◌, ◌^◌, ◌+◌, ◌*◌, Any, IsNone, IfSome, slice_range};
+ghost use Rattle.mr_assign.specs.declared.TheConstants.{POSITIONS, VALUES};
 ghost use Rattle.mr_assign.specs.Packing.{nibbles};
 ghost use Rattle.mr_nogood.specs.Row.{IsCite, IsRow};
 ghost use Rattle.mr_nogood.specs.Packing.{cite_word, head_of, row_packing};
@@ -56,9 +56,7 @@ pub fn unpack(words: &[u64; ROW_WORDS]) -> Option<Row>
     ensures row { IfSome result IsRow }
     ensures none { IsNone result → (row : Row) → IsRow row → words.now ≢ row_packing row }
 {
-    let mut clause = [0; CLAUSE_WORDS];
-    clause.copy_from_slice(&words[1..CITES]);
-    match Assign::of_words(clause) {
+    match clause_of(words) {
         Some(clause) => {
             let row = read(words, clause);
             if pack(&row) == *words {
@@ -69,6 +67,28 @@ pub fn unpack(words: &[u64; ROW_WORDS]) -> Option<Row>
         }
         None => None,
     }
+}
+
+/// The row of these words, which are just as `pack` gives them for one.
+pub fn row_of(words: &[u64; ROW_WORDS]) -> Row
+    requires { (row : Row) × IsRow row × (words.now ≡ row_packing row) }
+    ensures packing { words.now ≡ row_packing result }
+    ensures row { IsRow result }
+{
+    match clause_of(words) {
+        Some(clause) => read(words, clause),
+        None => unreachable!(),
+    }
+}
+
+// The clause that is read from the words, if it is one.
+fn clause_of(words: &[u64; ROW_WORDS]) -> Option<Assign>
+    ensures none { IsNone result ↔ Any (λ v. VALUES < v) (nibbles (slice_range words.now 1 7)) }
+    ensures some { IfSome result (λ clause. clause ≡ nibbles (slice_range words.now 1 7)) }
+{
+    let mut clause = [0; CLAUSE_WORDS];
+    clause.copy_from_slice(&words[1..CITES]);
+    Assign::of_words(clause)
 }
 
 // The row of this clause that is read from the words.

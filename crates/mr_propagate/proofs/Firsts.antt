@@ -1,5 +1,5 @@
 -- The first set that fails for each value of a position.
-use Rattle.std.proofs.Common.{ℕ, ◌<◌, ◌≡◌, List, get_or, set, Option, Some, None}
+use Rattle.std.proofs.Common.{ℕ, List, set, Option, Some, None}
 use Rattle.std.specs.Prelude.{MatchOption}
 use Rattle.mr_frame.specs.Frame.{Framed}
 use Rattle.mr_frame.specs.Parts.{NoneFailsLast, IsFirstFailingLast}

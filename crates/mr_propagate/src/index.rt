@@ -18,7 +18,7 @@ use crate::tests_at::{first_failing_at, first_failing_values};
 use crate::trie::{Trie, lesser};
 use mr_assign::{Assign, POSITIONS};
 use mr_frame::Frame;
-use mr_nogood::{Cite, Row};
+use mr_nogood::{Cite, ROW_CITES, Row};
 use mr_set::Set;
 use std::alloc::{AllocError, Global};
 use std::marker::Model;
@@ -170,8 +170,8 @@ impl Index {
         }
     }
 
-    /// The same for all values 1, 2, .. of the field, by one elimination for each set.
-    pub fn excluded_values(&self, frame: &Frame, node: &Assign, p: u32) -> [Option<Cite>; 8]
+    /// The same for all values 1, 2, .. of the field. Each set tells all values at once.
+    pub fn excluded_values(&self, frame: &Frame, node: &Assign, p: u32) -> [Option<Cite>; ROW_CITES]
         requires assignment { IsAssignmentOf frame.now node.now }
         requires position { p < length frame.now.places }
         requires filled { IsFilledBelow node.now p }
@@ -180,7 +180,7 @@ impl Index {
         ensures some { (v : ℕ) → 0 < v → v < order frame.now.field → IfSome (slice_index_or result (v - 1) None) (IsExcludedBy frame.now (in_slots self.now) node.now p v) }
     {
         let first = first_failing_values(frame, node, p);
-        let mut answers = [None; 8];
+        let mut answers = [None; ROW_CITES];
         for v in 1..frame.field().order() {
             answers[v as usize - 1] = self.excluded_by(frame, node, p, v, first[v as usize]);
         }

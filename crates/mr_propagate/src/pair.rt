@@ -1,9 +1,10 @@
-ghost use Rattle.std.specs.Prelude.{◌≡◌, ◌<◌, ◌≤◌, ◌+◌, ◌*◌, MatchBool, MatchOption, slice_index};
+ghost use Rattle.std.specs.Prelude.{◌≡◌, ◌≢◌, ◌<◌, ◌≤◌, ◌+◌, ◌*◌, ℕ, MatchBool, MatchOption, slice_index};
 ghost use Rattle.mr_assign.specs.declared.TheConstants.{POSITIONS, VALUES};
+ghost use Rattle.mr_assign.specs.Packing.{nibble};
 ghost use Rattle.mr_propagate.specs.Pairs.{IsLeastPair};
 ghost use Rattle.mr_propagate.specs.Private.Pairs.{IsEmpty, IsGreatestPair, IsPairNumber, IsPair, pair_number};
 
-use mr_assign::{Assign, POSITIONS, VALUES};
+use mr_assign::{Assign, CLAUSE_WORDS, POSITIONS, VALUES};
 
 /// Whether a map may have the pair.
 pub(crate) fn is_pair(p: u32, v: u8) -> bool
@@ -47,14 +48,21 @@ pub(crate) fn least_number(a: &Assign) -> usize
 pub(crate) fn greatest(a: &Assign) -> Option<u32>
     ensures { MatchOption result (IsEmpty a.now) (λ p. (p < POSITIONS) × IsGreatestPair a.now p (slice_index a.now p)) }
 {
-    // The clauses of `words` say that there are no more positions.
-    let _words = a.words();
-    let mut p = POSITIONS;
-    while p > 0 {
-        p -= 1;
-        if a.get(p) != 0 {
-            return Some(p);
+    let words = a.words();
+    let mut i = CLAUSE_WORDS;
+    while i > 0 {
+        i -= 1;
+        if words[i] != 0 {
+            return Some(16 * i as u32 + top_nibble(words[i]));
         }
     }
     None
+}
+
+// The place of the greatest nibble that isn't 0.
+fn top_nibble(word: u64) -> u32
+    requires { 0 < word }
+    ensures { (result < 16) × (nibble word result ≢ 0) × ((k : ℕ) → result < k → nibble word k ≡ 0) }
+{
+    (63 - word.leading_zeros()) / 4
 }

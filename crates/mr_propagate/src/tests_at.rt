@@ -23,7 +23,7 @@ pub(crate) fn first_failing_at(frame: &Frame, a: &Assign, p: u32) -> Option<Set>
 }
 
 /// For each value of a position the first set that fails with it, where the node has values at just the positions before
-/// it. One elimination for each set tells all values for which it fails.
+/// it. Each set tells all values at once.
 pub fn first_failing_values(frame: &Frame, node: &Assign, p: u32) -> [Option<Set>; WIDTH]
     requires assignment { IsAssignmentOf frame.now node.now }
     requires position { p < length frame.now.places }

@@ -15,7 +15,7 @@ use Rattle.mr_exchange.specs.State.{slots_of}
 use Rattle.mr_exchange.specs.Board.{Holding, GainsTicket}
 use Rattle.mr_exchange.proofs.Rows.{row_here, among_more}
 use Rattle.mr_search.specs.declared.outcome.Outcome.{Outcome}
-use Rattle.mr_search.specs.declared.outcome.Outcome.TheVariants.{Completed, Excluded}
+use Rattle.mr_search.specs.declared.outcome.Outcome.TheVariants.{Completed, Excluded, Deduced}
 use Rattle.mr_search.specs.declared.outcome.SearchStop.{SearchStop}
 use Rattle.mr_search.specs.declared.outcome.SearchStop.TheVariants.{Over, Memory}
 use Rattle.mr_search.specs.Nodes.{IsNodeUnder}
@@ -26,7 +26,7 @@ use Rattle.mr_search.proofs.Listing.{pairs_none, pairs_one, pairs_append, one_ti
 use Rattle.mr_search.proofs.Keeping.{keeps_both, keeps_opened, keeps_told, keeps_published, still_own, new_own}
 use Rattle.mr_search.proofs.Children.{part_refl, next_place, under_itself, under_differs, under_fewer}
 use Rattle.mr_search.proofs.Completing.{full_completion, full_only}
-use Rattle.mr_search.proofs.Settling.{AreKept, settled_more, outcome_settles, outcome_more, inside_right}
+use Rattle.mr_search.proofs.Settling.{AreKept, settled_more, outcome_settles, outcome_more, inside_right, only_added}
 
 module _ (before : Holding) (old_index : List (Option Row)) (node : List ℕ) (p : ℕ) (can : CanSearch before old_index node p) where
   -- the node's own ticket and those of nodes with more values
@@ -155,14 +155,14 @@ module _ (before : Holding) (old_index : List (Option Row)) (node : List ℕ) (p
       tried_nodes = subst (λ f. AreNodes (IsNodeUnder f node (p + 1)) exhausted.through.opened) opens.keeps.frame exhausted.through.nodes
 
       -- the node's own row refutes it
-      pub answers_published : (after : Holding) (index : List (Option Row)) → Publishes tried ticket node after → Stands after index → Answered before.frame before after index node p old new (Excluded (Slot ticket))
+      pub answers_published : (after : Holding) (index : List (Option Row)) → Publishes tried ticket node after → Stands after index → Answered before.frame before after index node p old new (Deduced ticket)
       answers_published after index published stands =
           let through = exhausted.through in
           let there : after.known ticket ≡ Some published.row = ap (λ (h : Holding). h.known ticket) published.is ∙ row_here tried.known ticket published.row in
           let grown : AreKept tried.known after.known = λ slot row is. ap (λ (h : Holding). h.known slot) published.is ∙ among_more tried.known ticket published.row tried_unknown slot row is in
-          answer after index old new ticket through.opened (Excluded (Slot ticket)) (kept after published) tried_nodes stands
+          answer after index old new ticket through.opened (Deduced ticket) (kept after published) tried_nodes stands
           (λ t has. settled_more before.frame tried.known after.known through.opened through.opened t.node grown (λ u among. among) (subst (λ f. IsSettled f tried.known through.opened t.node) opens.keeps.frame (through.settled t has)))
-          (through.is ∙ ap (λ l. old ++ l) exhausted.none ∙ append-nil old, (published.row, there, published.inside))
+          (through.is ∙ ap (λ l. old ++ l) exhausted.none ∙ append-nil old, (published.row, there, published.inside), λ s row is inside. only_added tried.known ticket published.row node through.nothing s row (sym (ap (λ (h : Holding). h.known s) published.is) ∙ is) inside)
 
       -- no memory for it
       pub stops_published : (after : Holding) → Publishes tried ticket node after → Stopped before.frame before after node p Memory

@@ -76,5 +76,6 @@ fn search_claimed<B: Board>(
     match search_node(board, index, &node, problem.depth, &mut found)? {
         Outcome::Completed => Ok(CubeAnswer::Found(found)),
         Outcome::Excluded(cite) => Ok(CubeAnswer::Refuted(cite)),
+        Outcome::Deduced(slot) => Ok(CubeAnswer::Refuted(Cite::Slot(slot))),
     }
 }

@@ -117,8 +117,8 @@ fn needs(frame: &Frame, basis: &[u32], x: Set, q: u32) -> bool
     x.has(place.col)
 }
 
-// Whether the slot is learnt, and its row has a value at a position.
-fn has_value_at(index: &Index, s: u32, q: u32) -> bool
+/// Whether the slot is learnt, and its row has a value at a position.
+pub(crate) fn has_value_at(index: &Index, s: u32, q: u32) -> bool
     requires { q < POSITIONS }
     ensures { IsTrue result ↔ HasValueAt (in_slots index.now) s q }
 {

@@ -4,9 +4,11 @@ ghost use Rattle.mr_nogood.specs.Follows.{in_slots};
 ghost use Rattle.mr_field.specs.Gf.{order};
 ghost use Rattle.mr_exchange.specs.Board.{Holding};
 ghost use Rattle.mr_propagate.specs.Index.{NoneFailsAt, IsFirstFailingAt, NothingInside, IsLeastInside};
+ghost use Rattle.mr_search.specs.Private.Citing.{HasValueAt};
 ghost use Rattle.mr_search.specs.Private.Steps.{CanSearch, Answered, Stopped, IsStep, AreValues};
 
 use crate::SearchStop;
+use crate::deducing::has_value_at;
 use crate::opening::open;
 use crate::outcome::{Outcome, Step, Values};
 use crate::publishing::publish;
@@ -46,7 +48,7 @@ pub(crate) fn search_node<B: Board>(
         Values::Excluded(cites) => {
             let ticket = opening.ticket;
             publish(board, index, node, p, ticket, cites)?;
-            Ok(Outcome::Excluded(Cite::Slot(ticket)))
+            Ok(Outcome::Deduced(ticket))
         }
     }
 }
@@ -117,6 +119,10 @@ fn search_value<B: Board>(
             Some(slot) => Ok(Step::Inside(slot)),
             None => Ok(Step::Excluded(cite)),
         },
+        Outcome::Deduced(slot) => match inside_after(index, node, p, slot) {
+            Some(other) => Ok(Step::Inside(other)),
+            None => Ok(Step::Excluded(Cite::Slot(slot))),
+        },
     }
 }
 
@@ -130,6 +136,21 @@ fn inside_now(index: &Index, node: &Assign, p: u32, learnt: bool) -> Option<u32>
     ensures some { IfSome result (IsLeastInside (in_slots index.now) node.now) }
 {
     if !learnt {
+        return None;
+    }
+    index.inside_below(node, p)
+}
+
+// The same where no other row than the slot's may have its clause in the node. There is none where that row has a value
+// at p.
+fn inside_after(index: &Index, node: &Assign, p: u32, slot: u32) -> Option<u32>
+    requires position { p < POSITIONS }
+    requires last { (q : ℕ) → p ≤ q → slice_index node.now q ≡ 0 }
+    requires nothing { HasValueAt (in_slots index.now) slot p → NothingInside (in_slots index.now) node.now }
+    ensures none { IsNone result ↔ NothingInside (in_slots index.now) node.now }
+    ensures some { IfSome result (IsLeastInside (in_slots index.now) node.now) }
+{
+    if has_value_at(index, slot, p) {
         return None;
     }
     index.inside_below(node, p)

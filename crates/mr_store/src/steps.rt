@@ -20,7 +20,7 @@ use crate::view::View;
 use atomic_table::{Seat, Shared};
 use mr_assign::Assign;
 use mr_exchange::{Look, SHORT, SlotList};
-use mr_nogood::{ROW_WORDS, Row, unpack};
+use mr_nogood::{ROW_WORDS, Row, row_of};
 use std::alloc::{AllocError, Global};
 
 pub(crate) type Words = Shared<(), View, Key, Ruled>;
@@ -112,10 +112,7 @@ fn read_row(words: &Words, seat: &mut Seat<(), View>, slot: u32, head: u64) -> R
     ensures same { (seat.new.table_id ≡ seat.old.table_id) × (seat.new.id ≡ seat.old.id) × (seat.new.me ≡ seat.old.me) }
     ensures row { find seat.old.me.0.found slot ≡ Some result }
 {
-    match unpack(&read_words(words, seat, slot, head)) {
-        Some(row) => row,
-        None => unreachable!(),
-    }
+    row_of(&read_words(words, seat, slot, head))
 }
 
 // Reads the words of a slot with this head.

@@ -66,7 +66,7 @@ fn a_text_is_cut_at_the_first_separator(rt: HostRuntime) -> Result<(), Fail> {
 fn numbers_and_sets_are_written(rt: HostRuntime) -> Result<(), Fail> {
     let mut text = Text::new(rt.alloc());
     text.put_set(Set::empty().with(31).with(0).with(9))?;
-    text.put(b"\n")?;
+    text.put_byte(b'\n')?;
     text.put_set(Set::empty())?;
     text.put(b"\n")?;
     text.put_number(0)?;

@@ -1,9 +1,6 @@
 -- the words of a row are those of the row that is read from them
-use Rattle.std.proofs.Common.{◌≡◌, ◌<◌, refl, subst, ◌∙◌}
-use Rattle.std.specs.Prelude.{Any, slice_range}
+use Rattle.std.proofs.Common.{◌≡◌, refl, ◌∙◌}
 use Rattle.std.specs.Cmp.Lexicographic.{other_text}
-use Rattle.mr_assign.specs.declared.TheConstants.{VALUES}
-use Rattle.mr_assign.specs.Packing.{nibbles}
 use Rattle.mr_nogood.proofs.Words.{packed-unpacked, none_large}
 use Rattle.mr_nogood.proofs.packing.unpack.Goals as goal
 
@@ -13,6 +10,4 @@ returns-else-eq-clause-none c = λ _ row is same.
     other_text c.pack.result c.args.words.now c.if-eq.ensures (c.pack.ensures.packing ∙ again)
 
 pub returns-in-None-clause-none : goal.returns-in-None-clause-none
-returns-in-None-clause-none c = λ _ row is same.
-    let clause : c.copy_from_slice.new.self ≡ slice_range c.args.words.now 1 7 = c.copy_from_slice.ensures.after in
-    none_large c.args.words.now row is same (subst (λ ws. Any (λ v. VALUES < v) (nibbles ws)) clause (c.in-None.ensures.none.0 refl))
+returns-in-None-clause-none c = λ _ row is same. none_large c.args.words.now row is same (c.in-None.ensures.none.0 refl)

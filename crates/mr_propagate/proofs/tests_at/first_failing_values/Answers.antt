@@ -1,5 +1,5 @@
 -- by the sets whose last position it is
-use Rattle.std.proofs.Common.{ℕ, get_or, None}
+use Rattle.std.proofs.Common.{get_or, None}
 use Rattle.mr_propagate.proofs.Firsts.{first_of_last}
 use Rattle.mr_propagate.proofs.tests_at.first_failing_values.Goals as goal
 

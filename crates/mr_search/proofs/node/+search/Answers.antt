@@ -7,16 +7,18 @@ use Rattle.mr_field.specs.Gf.{order}
 use Rattle.mr_frame.specs.Frame.{Framed}
 use Rattle.mr_nogood.specs.Follows.{in_slots}
 use Rattle.mr_nogood.specs.declared.row.Cite.{Cite}
-use Rattle.mr_nogood.specs.declared.row.Cite.TheVariants.{Nothing}
+use Rattle.mr_nogood.specs.declared.row.Cite.TheVariants.{Nothing, Slot}
 use Rattle.mr_frame.specs.Test.{IsAssignmentOf}
 use Rattle.mr_exchange.proofs.CubesInOrder.{few_elements}
 use Rattle.std.specs.Prelude.{MatchOption, Option, None}
 use Rattle.mr_propagate.specs.Index.{NothingInside, IsExcludedBy, IsOpenAt, NoneFailsAt, IsFirstFailingAt}
-use Rattle.mr_search.specs.declared.outcome.Outcome.TheVariants.{Completed, Excluded}
+use Rattle.mr_search.specs.declared.outcome.Outcome.TheVariants.{Completed, Excluded, Deduced}
 use Rattle.mr_search.specs.Private.Steps.{Answered, Stopped, Through}
 use Rattle.mr_search.proofs.Answering.{answers_inside, answers_full, answers_by_values, stops_by_values, stops_opened, tried_own, tried_unknown, tried_values, tried_place, tried_cites, answers_published, stops_published}
 use Rattle.mr_search.proofs.Children.{next_place}
-use Rattle.mr_search.proofs.Stepping.{inside_known, nothing_known, nothing_learnt, can_opened, few_positions, cube_within, none_from, first_again, child_can, answers_excluded, nothing_completed, no_cites}
+use Rattle.mr_search.proofs.Stepping.{same_rows, inside_known, nothing_known, nothing_learnt, can_opened, few_positions, cube_within, none_from, first_again, child_can, answers_excluded, nothing_completed, no_cites}
+use Rattle.mr_search.specs.Private.Citing.{HasValueAt}
+use Rattle.mr_search.proofs.Settling.{answered_by_row, nothing_beside}
 use Rattle.mr_search.proofs.Trying.{through_none, can_again, place_again, value_again, through_completed, through_excluded, through_inside, through_stopped, all_completed, all_excluded}
 use Rattle.mr_search.proofs.node.+search.Goals as goal
 use Rattle.mr_search.proofs.node.+search.Goals.{search_values-in-Completed, search_values-in-Excluded}
@@ -243,6 +245,35 @@ search_value-returns-in-None-inside_below-clause-ok g t c =
 
 pub search_value-returns-in-None-inside_below-clause-mark : goal.search_value-returns-in-None-inside_below-clause-mark
 search_value-returns-in-None-inside_below-clause-mark g t c = c.in_ok-search_node.ensures.mark
+
+pub search_value-inside_after-requires-clause-nothing : goal.search_value-inside_after-requires-clause-nothing
+search_value-inside_after-requires-clause-nothing g t c =
+    let h = g.B.Board.holding c.args.board.now in
+    let after = g.B.Board.holding c.search_node.new.board in
+    let answered = subst (λ a. Answered h.frame h after c.search_node.new.index a (c.args.p + 1) c.args.found.now c.search_node.new.found (Deduced c.in-Deduced.slot)) c.with-child.ensures (rw c.in-Deduced.is at c.in_ok-search_node.ensures.ok) in
+    λ has. nothing_learnt c.search_node.new.index after c.args.node.now answered.stands.ready.learnt
+    (nothing_beside after.known h.frame c.args.node.now c.args.p c.args.v c.in-Deduced.slot c.requires.can.values answered.outcome_is.2
+    (subst (λ rows. HasValueAt rows c.in-Deduced.slot c.args.p) (same_rows c.search_node.new.index after answered.stands.ready.learnt) has))
+
+pub search_value-returns-in-Some-inside_after-clause-ok : goal.search_value-returns-in-Some-inside_after-clause-ok
+search_value-returns-in-Some-inside_after-clause-ok g t c =
+    let h = g.B.Board.holding c.args.board.now in
+    let after = g.B.Board.holding c.search_node.new.board in
+    let answered = subst (λ a. Answered h.frame h after c.search_node.new.index a (c.args.p + 1) c.args.found.now c.search_node.new.found (Deduced c.in-Deduced.slot)) c.with-child.ensures (rw c.in-Deduced.is at c.in_ok-search_node.ensures.ok) in
+    (Slot c.in-Deduced.slot, answered_by_row _ _ _ _ _ _ _ _ _ answered, inside_known c.search_node.new.index after c.args.node.now c.in-Some-inside_after.other answered.stands.ready.learnt c.in-Some-inside_after.ensures.some)
+
+pub search_value-returns-in-Some-inside_after-clause-mark : goal.search_value-returns-in-Some-inside_after-clause-mark
+search_value-returns-in-Some-inside_after-clause-mark g t c = c.in_ok-search_node.ensures.mark
+
+pub search_value-returns-in-None-inside_after-clause-ok : goal.search_value-returns-in-None-inside_after-clause-ok
+search_value-returns-in-None-inside_after-clause-ok g t c =
+    let h = g.B.Board.holding c.args.board.now in
+    let after = g.B.Board.holding c.search_node.new.board in
+    let answered = subst (λ a. Answered h.frame h after c.search_node.new.index a (c.args.p + 1) c.args.found.now c.search_node.new.found (Deduced c.in-Deduced.slot)) c.with-child.ensures (rw c.in-Deduced.is at c.in_ok-search_node.ensures.ok) in
+    (answered_by_row _ _ _ _ _ _ _ _ _ answered, nothing_known c.search_node.new.index after c.args.node.now answered.stands.ready.learnt (c.in-None-inside_after.ensures.none.0 refl))
+
+pub search_value-returns-in-None-inside_after-clause-mark : goal.search_value-returns-in-None-inside_after-clause-mark
+search_value-returns-in-None-inside_after-clause-mark g t c = c.in_ok-search_node.ensures.mark
 
 pub search_values-loop-v-init : goal.search_values-loop-v-init
 search_values-loop-v-init g t c =
