@@ -1,6 +1,7 @@
-ghost use Rattle.std.specs.Prelude.{◌≡◌, ◌<◌, ◌≤◌, ◌^◌, ℕ, List, MatchOption, MatchResult, decimal, length};
+ghost use Rattle.std.specs.Prelude.{◌≡◌, ◌<◌, ◌≤◌, ℕ, List, MatchOption, MatchResult, decimal, length};
 ghost use Rattle.mr_field.specs.Order.{IsOrder};
 ghost use Rattle.mr_minor.specs.declared.masks.TheConstants.{BITS};
+ghost use Rattle.mr_text.specs.declared.TheConstants.{NUMBERS};
 ghost use Rattle.matrep.specs.Words.{texts, IsValue, Gives, HasKey, AreOperands, HasNeeded, GivesNumber, GivesClasses, GivesElements, IsListText, OffendsAfter};
 ghost use Rattle.matrep.specs.declared.names.Key.{Key as KeyValue};
 ghost use Rattle.matrep.specs.declared.names.Name.{Name as NameValue};
@@ -145,7 +146,7 @@ fn order_of(operands: &[String]) -> Option<u8>
 fn number_of(operands: &[String], key: Key, least: u32, most: u32, default: u32) -> u32
     requires right { AreRight (texts operands.now) }
     requires values { (value : List ℕ) → IsValue key value → (k : ℕ) × (least ≤ k) × (k ≤ most) × (value ≡ decimal k) }
-    requires within { (least ≤ default) × (default ≤ most) × (most < 10 ^ 9) }
+    requires within { (least ≤ default) × (default ≤ most) × (most < NUMBERS) }
     ensures given { GivesNumber (texts operands.now) key default result }
     ensures least { least ≤ result }
     ensures most { result ≤ most }

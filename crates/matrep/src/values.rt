@@ -1,7 +1,8 @@
-ghost use Rattle.std.specs.Prelude.{◌≢◌, ◌≡◌, ◌↔◌, ◌≤◌, ◌<◌, ◌^◌, ℕ, Bool, IsTrue, List, MatchOption, decimal};
+ghost use Rattle.std.specs.Prelude.{◌≢◌, ◌≡◌, ◌↔◌, ◌≤◌, ◌<◌, ℕ, Bool, IsTrue, List, MatchOption, decimal};
 ghost use Rattle.mr_field.specs.Order.{IsOrder};
 ghost use Rattle.mr_set.specs.Elements.{elements_below};
 ghost use Rattle.mr_minor.specs.declared.masks.TheConstants.{BITS};
+ghost use Rattle.mr_text.specs.declared.TheConstants.{NUMBERS};
 ghost use Rattle.matrep.specs.Words.{IsListText, IsValue, classes_word};
 ghost use Rattle.matrep.specs.Private.Operands.{IsListFrom};
 
@@ -54,7 +55,7 @@ pub fn order_in(text: &[u8]) -> Option<u8>
 
 /// A number within these bounds.
 pub fn number_in(text: &[u8], least: u32, most: u32) -> Option<u32>
-    requires { most < 10 ^ 9 }
+    requires { most < NUMBERS }
     ensures { MatchOption result ((k : ℕ) → least ≤ k → k ≤ most → text.now ≢ decimal k) (λ k. (least ≤ k) × (k ≤ most) × (text.now ≡ decimal k)) }
 {
     match number(text) {

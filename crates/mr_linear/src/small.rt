@@ -35,9 +35,10 @@ pub fn part_values(
     ensures scratch { InField field.now copy.new }
     ensures size { length copy.new ≡ length copy.old }
 {
-    match pair_part(field, full, rows, cols, in_rows, x, row, column) {
-        Some(values) => return values,
-        None => {}
+    if let Some(k) = only_other(in_rows, row, rows) {
+        if let Some(j) = only_other(x, column, cols) {
+            return pair_values(field, full, row, column, k, j);
+        }
     }
     match triple_part(field, full, rows, cols, in_rows, x, row, column) {
         Some(values) => return values,
@@ -45,31 +46,6 @@ pub fn part_values(
     }
     copy_rows(full, copy, rows);
     dependent_values(field, copy, rows, cols, in_rows, x, row, column, spare)
-}
-
-// The values for a part with two rows and two columns.
-fn pair_part(
-    field: &Field,
-    w: &[u8],
-    rows: u32,
-    cols: u32,
-    in_rows: Set,
-    x: Set,
-    row: u32,
-    column: u32,
-) -> Option<Set>
-    requires shape { (length w.now ≡ CELLS) × (rows ≤ ELEMENTS) × (cols ≤ ELEMENTS) }
-    requires elements { InField field.now w.now }
-    requires place { (row < rows) × (column < cols) × Contains in_rows row × Contains x column }
-    ensures { IfSome result (AreValues field.now rows in_rows cols (cell w.now) row column x) }
-{
-    let Some(k) = only_other(in_rows, row, rows) else {
-        return None;
-    };
-    let Some(j) = only_other(x, column, cols) else {
-        return None;
-    };
-    Some(pair_values(field, w, row, column, k, j))
 }
 
 // The values for which the determinant of two rows and columns is zero.
