@@ -227,7 +227,7 @@ impl Frame {
     }
 
     /// For each value of a free position the first set that fails with it, among those whose part has the position as its
-    /// last one, where the earlier positions have values. One elimination for each set tells all values.
+    /// last one, where the earlier positions have values. Each set tells all values at once.
     pub fn first_failing_values(&self, p: u32, a: &Assign) -> [Option<Set>; WIDTH]
         requires assignment { IsAssignmentOf self.now a.now }
         requires position { p < length self.now.places }

@@ -1,4 +1,4 @@
-ghost use Rattle.std.specs.Prelude.{◌≡◌, length, IfOk, IsTrue};
+ghost use Rattle.std.specs.Prelude.{◌≡◌, length, IfOk, IfSome, IsTrue};
 ghost use Rattle.std.specs.Bool.{OnTrue};
 ghost use Rattle.mr_assign.specs.Assign.{IsAssign};
 ghost use Rattle.mr_frame.specs.Test.{IsAssignmentOf, IsFull};
@@ -22,24 +22,24 @@ use mr_log::write_log;
 use mr_matroid::Matroid;
 use mr_nogood::{Cite, ROW_CITES, Row, fails, follows};
 use mr_set::{ELEMENTS, Set, binomial, sets_of};
+use mr_text::Text;
 use std::alloc::{AllocError, Global};
-use std::test::Fail;
 
 // The frame of the matroid of `n` elements in which each set of `r` is a basis, over the field with so many elements.
-fn uniform(alloc: Global, n: u32, r: u32, order: u32) -> Result<Frame, Fail> {
+fn uniform(alloc: Global, n: u32, r: u32, order: u32) -> Option<Frame> {
     if n > ELEMENTS || r > n || binomial(n, r).is_none() {
-        return Err("the numbers are within the limits".into());
+        return None;
     }
-    let none = sets_of(alloc, n, r, &[])?.ok_or("sets")?;
-    let m = Matroid::from_nonbases(alloc, n, r, none.as_slice())?;
-    Ok(Frame::new(alloc, m, Field::of(order).ok_or("a field")?)?)
+    let none = sets_of(alloc, n, r, &[]).ok()??;
+    let m = Matroid::from_nonbases(alloc, n, r, none.as_slice()).ok()?;
+    Frame::new(alloc, m, Field::of(order)?).ok()
 }
 
 // The frame of the Fano plane over three elements, by the masks of its lines.
-fn fano(alloc: Global) -> Result<Frame, Fail> {
-    let lines = sets_of(alloc, 7, 3, &[11, 21, 97, 38, 82, 76, 56])?.ok_or("sets")?;
-    let plane = Matroid::from_nonbases(alloc, 7, 3, lines.as_slice())?;
-    Ok(Frame::new(alloc, plane, Field::of(3).ok_or("a field")?)?)
+fn fano(alloc: Global) -> Option<Frame> {
+    let lines = sets_of(alloc, 7, 3, &[11, 21, 97, 38, 82, 76, 56]).ok()??;
+    let plane = Matroid::from_nonbases(alloc, 7, 3, lines.as_slice()).ok()?;
+    Frame::new(alloc, plane, Field::of(3)?).ok()
 }
 
 // The answer for an assignment of all positions: itself where no set fails under it, else the first that does.
@@ -84,34 +84,64 @@ fn all_answers(alloc: Global, frame: &Frame, problem: Problem) -> Result<AnswerL
 }
 
 // What the answers for all full assignments of a frame with few positions are merged to.
-fn merged(alloc: Global, frame: &Frame) -> Result<Merged, Fail>
-    ensures { IfOk result (λ merged. MatchMerged merged (λ forms. Unit {0}) (λ log. IsLog log)) }
+fn merged(alloc: Global, frame: &Frame) -> Option<Merged>
+    ensures { IfSome result (λ merged. MatchMerged merged (λ forms. Unit {0}) (λ log. IsLog log)) }
 {
     let problem = Problem::of(frame, 4, 10);
     if problem.depth != frame.free() {
-        return Err("few positions".into());
+        return None;
     }
-    let board = PlainBoard::new(alloc, frame, problem)?;
+    let board = PlainBoard::new(alloc, frame, problem).ok()?;
     let closed = board.close();
-    let answers = all_answers(alloc, frame, problem)?;
-    match merge(alloc, frame, problem, &answers, &closed) {
-        Err(e) => Err(e.into()),
-        Ok(merged) => Ok(merged),
+    match all_answers(alloc, frame, problem) {
+        Err(_) => None,
+        Ok(answers) => match merge(alloc, frame, problem, &answers, &closed) {
+            Err(_) => None,
+            Ok(merged) => Some(merged),
+        },
     }
 }
 
-#[test]
-fn the_line_of_four_points_has_two_forms_over_four_elements(rt: HostRuntime) -> Result<(), Fail> {
-    let alloc = rt.alloc();
-    let frame = uniform(alloc, 4, 2, 4)?;
-    match merged(alloc, &frame)? {
-        Merged::Refuted(_) => Err("forms".into()),
-        Merged::Forms(forms) => {
-            let wanted = [Assign::empty().with(0, 2), Assign::empty().with(0, 3)];
-            assert_eq!(rt; forms.as_slice(), wanted.as_slice());
-            Ok(())
-        }
+// The text of the log that was made, if one was.
+fn text_of(alloc: Global, merged: &Merged) -> Option<Text>
+    requires { MatchMerged merged.now (λ forms. Unit {0}) (λ log. IsLog log) }
+{
+    match merged {
+        Merged::Forms(_) => None,
+        Merged::Refuted(log) => write_log(alloc, log).ok(),
     }
+}
+
+// Whether these forms were made.
+fn are_forms(merged: &Merged, wanted: &[Assign]) -> bool {
+    match merged {
+        Merged::Forms(forms) => forms.as_slice() == wanted,
+        Merged::Refuted(_) => false,
+    }
+}
+
+// Whether a log of this text is accepted, and has so many steps.
+fn is_accepted(alloc: Global, text: &[u8], field: Field, steps: u32) -> bool {
+    if text.len() > 1000 {
+        return false;
+    }
+    match check(alloc, text, field) {
+        Ok(accepted) => accepted == Accepted { steps },
+        Err(_) => false,
+    }
+}
+
+// Whether the line of so many points has the forms with 2 and 3 at position 0 over four elements.
+fn has_two_forms(alloc: Global) -> Option<bool> {
+    let frame = uniform(alloc, 4, 2, 4)?;
+    let merged = merged(alloc, &frame)?;
+    let wanted = [Assign::empty().with(0, 2), Assign::empty().with(0, 3)];
+    Some(are_forms(&merged, wanted.as_slice()))
+}
+
+#[test]
+fn the_line_of_four_points_has_two_forms_over_four_elements(rt: HostRuntime) {
+    assert!(rt; has_two_forms(rt.alloc()) == Some(true));
 }
 
 // The log of the line of five points over three elements: 1 at position 0 makes 2 3 fail, and with 2 there each value
@@ -123,44 +153,35 @@ const FIVE: &[u8] =
 const FOUR: &[u8] =
     b"refutation 1\nfield 2\nmatroid 1\nelements 4\nrank 2\nnonbases 0\nend\nsteps 0\nend t 2 3\n";
 
-#[test]
-fn where_there_is_no_form_the_log_is_accepted(rt: HostRuntime) -> Result<(), Fail> {
-    let alloc = rt.alloc();
-    let cases: [(u32, u32, &[u8], u32); 2] = [(5, 3, FIVE, 2), (4, 2, FOUR, 0)];
-    for (n, order, wanted, steps) in cases {
-        let frame = uniform(alloc, n, 2, order)?;
-        match merged(alloc, &frame)? {
-            Merged::Forms(_) => return Err("a log".into()),
-            Merged::Refuted(log) => {
-                let text = write_log(alloc, &log)?;
-                assert_eq!(rt; text.as_bytes(), wanted);
-                if wanted.len() > 1000 {
-                    return Err("a short log".into());
-                }
-                assert_eq!(rt; check(alloc, wanted, frame.field()), Ok(Accepted { steps }));
-            }
-        }
-    }
-    Ok(())
+// The text of the log of a frame without forms.
+fn log_text(alloc: Global, frame: &Frame) -> Option<Text> {
+    let merged = merged(alloc, frame)?;
+    text_of(alloc, &merged)
 }
 
-// Its three free positions are all split: no cube has a completion.
+// Whether the line of so many points has this log, and it is accepted.
+fn has_log(alloc: Global, n: u32, order: u32, wanted: &[u8], steps: u32) -> Option<bool> {
+    let frame = uniform(alloc, n, 2, order)?;
+    let text = log_text(alloc, &frame)?;
+    Some(text.as_bytes() == wanted && is_accepted(alloc, wanted, frame.field(), steps))
+}
+
 #[test]
-fn the_fano_plane_is_refuted_over_three_elements(rt: HostRuntime) -> Result<(), Fail> {
-    let alloc = rt.alloc();
+fn where_there_is_no_form_the_log_is_accepted(rt: HostRuntime) {
+    assert!(rt; has_log(rt.alloc(), 5, 3, FIVE, 2) == Some(true));
+    assert!(rt; has_log(rt.alloc(), 4, 2, FOUR, 0) == Some(true));
+}
+
+// Whether the log of the Fano plane is accepted. Its three free positions are all split: no cube has a completion.
+fn is_fano_refuted(alloc: Global) -> Option<bool> {
     let frame = fano(alloc)?;
-    match merged(alloc, &frame)? {
-        Merged::Forms(_) => Err("a log".into()),
-        Merged::Refuted(log) => {
-            let text = write_log(alloc, &log)?;
-            if text.as_bytes().len() > 1000 {
-                return Err("a short log".into());
-            }
-            let verdict = check(alloc, text.as_bytes(), frame.field());
-            assert_eq!(rt; verdict, Ok(Accepted { steps: 3 }));
-            Ok(())
-        }
-    }
+    let text = log_text(alloc, &frame)?;
+    Some(is_accepted(alloc, text.as_bytes(), frame.field(), 3))
+}
+
+#[test]
+fn the_fano_plane_is_refuted_over_three_elements(rt: HostRuntime) {
+    assert!(rt; is_fano_refuted(rt.alloc()) == Some(true));
 }
 
 // Whether a new pass claims the cubes 0 and 1.
@@ -244,26 +265,26 @@ fn answers_by(
     problem: Problem,
     closed: &Closed,
     cites: &[Cite],
-) -> Result<AnswerList, Fail>
+) -> Option<AnswerList>
     requires { IsProblemOf frame.now problem }
-    ensures { IfOk result (AreAnswers frame.now problem (in_slots closed.now.rows)) }
+    ensures { IfSome result (AreAnswers frame.now problem (in_slots closed.now.rows)) }
 {
     if cites.len() != problem.cubes as usize {
-        return Err("a cite for each cube".into());
+        return None;
     }
     let mut answers = AnswerList::new(alloc);
     for c in 0..problem.cubes {
         let cube = cube_at(frame, problem.depth, c);
         let cite = &cites[c as usize];
         if !refutes(frame, closed, &cube, cite) {
-            return Err("a cite that refutes".into());
+            return None;
         }
         match answers.push(CubeAnswer::Refuted(*cite)) {
-            Err(e) => return Err(e.into()),
+            Err(_) => return None,
             Ok(()) => {}
         }
     }
-    Ok(answers)
+    Some(answers)
 }
 
 // The set with this mask.
@@ -287,35 +308,47 @@ fn row() -> Row {
     }
 }
 
-// What is merged where one position is split, 2 3 refutes the first cube and the row of slot 0 the second.
-fn merged_by_row(alloc: Global, frame: &Frame) -> Result<Merged, Fail>
-    ensures { IfOk result (λ merged. MatchMerged merged (λ forms. Unit {0}) (λ log. IsLog log)) }
+// What a board shows whose pass publishes the row.
+fn closed_with_row(alloc: Global, frame: &Frame, problem: Problem) -> Option<Closed>
+    requires { IsProblemOf frame.now problem }
+    ensures frame { IfSome result (λ closed. closed.frame ≡ frame.now) }
+    ensures problem { IfSome result (λ closed. closed.problem ≡ problem) }
 {
-    let problem = Problem::of(frame, 1, 10);
-    let mut board = PlainBoard::new(alloc, frame, problem)?;
-    if !plays(&mut board, &row()) {
-        return Err("a row".into());
-    }
-    let closed = board.close();
-    let cites = [test(0b1100), Cite::Slot(0)];
-    let answers = answers_by(alloc, frame, problem, &closed, cites.as_slice())?;
-    match merge(alloc, frame, problem, &answers, &closed) {
-        Err(e) => Err(e.into()),
-        Ok(merged) => Ok(merged),
+    match PlainBoard::new(alloc, frame, problem) {
+        Err(_) => None,
+        Ok(mut board) => {
+            if plays(&mut board, &row()) {
+                Some(board.close())
+            } else {
+                None
+            }
+        }
     }
 }
 
-// The same log, of whose steps the first is the board's row.
-#[test]
-fn a_row_of_the_board_becomes_a_step(rt: HostRuntime) -> Result<(), Fail> {
-    let alloc = rt.alloc();
-    let frame = uniform(alloc, 5, 2, 3)?;
-    match merged_by_row(alloc, &frame)? {
-        Merged::Forms(_) => Err("a log".into()),
-        Merged::Refuted(log) => {
-            let text = write_log(alloc, &log)?;
-            assert_eq!(rt; text.as_bytes(), FIVE);
-            Ok(())
-        }
+// What is merged where one position is split, 2 3 refutes the first cube and the row of slot 0 the second.
+fn merged_by_row(alloc: Global, frame: &Frame) -> Option<Merged>
+    ensures { IfSome result (λ merged. MatchMerged merged (λ forms. Unit {0}) (λ log. IsLog log)) }
+{
+    let problem = Problem::of(frame, 1, 10);
+    let closed = closed_with_row(alloc, frame, problem)?;
+    let cites = [test(0b1100), Cite::Slot(0)];
+    let answers = answers_by(alloc, frame, problem, &closed, cites.as_slice())?;
+    match merge(alloc, frame, problem, &answers, &closed) {
+        Err(_) => None,
+        Ok(merged) => Some(merged),
     }
+}
+
+// Whether the log is the same, of whose steps the first is then the board's row.
+fn has_log_by_row(alloc: Global) -> Option<bool> {
+    let frame = uniform(alloc, 5, 2, 3)?;
+    let merged = merged_by_row(alloc, &frame)?;
+    let text = text_of(alloc, &merged)?;
+    Some(text.as_bytes() == FIVE)
+}
+
+#[test]
+fn a_row_of_the_board_becomes_a_step(rt: HostRuntime) {
+    assert!(rt; has_log_by_row(rt.alloc()) == Some(true));
 }

@@ -10,26 +10,85 @@ use mr_matroid::Matroid;
 use mr_nogood::Cite;
 use mr_propagate::Index;
 use mr_set::sets_of;
-use std::alloc::Global;
-use std::test::Fail;
+use std::alloc::{AllocError, Global};
 
 // The frame of the Fano plane over three elements, by the masks of its lines. Its free positions are those of row 1
 // and element 6, of row 2 and element 5, and of row 2 and element 6.
-fn fano(alloc: Global) -> Result<Frame, Fail> {
-    let lines = sets_of(alloc, 7, 3, &[11, 21, 97, 38, 82, 76, 56])?.ok_or("sets")?;
-    let plane = Matroid::from_nonbases(alloc, 7, 3, lines.as_slice())?;
-    Ok(Frame::new(alloc, plane, Field::of(3).ok_or("a field")?)?)
+fn fano(alloc: Global) -> Option<Frame> {
+    let lines = sets_of(alloc, 7, 3, &[11, 21, 97, 38, 82, 76, 56]).ok()??;
+    let plane = Matroid::from_nonbases(alloc, 7, 3, lines.as_slice()).ok()?;
+    Frame::new(alloc, plane, Field::of(3)?).ok()
 }
 
 // The frame of the uniform matroid of rank 2 on four elements. Over more than two elements one position is free.
-fn four_points(alloc: Global, q: u32) -> Result<Frame, Fail> {
-    let none = sets_of(alloc, 4, 2, &[])?.ok_or("sets")?;
-    let points = Matroid::from_nonbases(alloc, 4, 2, none.as_slice())?;
-    Ok(Frame::new(alloc, points, Field::of(q).ok_or("a field")?)?)
+fn four_points(alloc: Global, q: u32) -> Option<Frame> {
+    let none = sets_of(alloc, 4, 2, &[]).ok()??;
+    let points = Matroid::from_nonbases(alloc, 4, 2, none.as_slice()).ok()?;
+    Frame::new(alloc, points, Field::of(q)?).ok()
 }
 
-// What the search of the one cube of no positions finds, unless no ticket was left.
-fn search_all(alloc: Global, frame: &Frame, nodes: u32) -> Result<Option<CubeAnswer>, Fail>
+// How a search ends: with the completions that give 2 and 3 to position 0, with other ones, with a set, told by its
+// mask, with a row, without a ticket or memory, or before it, without a cube.
+#[derive(Clone, Copy, PartialEq, Eq)]
+enum End {
+    TwoAndThree,
+    Others,
+    Set(u64),
+    Row,
+    Over,
+    Memory,
+    Unclaimed,
+}
+
+// How a search ends that refutes its cube.
+fn refuted(cite: &Cite) -> End {
+    match cite {
+        Cite::Test(x) => End::Set(x.mask()),
+        Cite::Slot(_) => End::Row,
+        Cite::Nothing => End::Others,
+    }
+}
+
+// How a search ends that finds these completions.
+fn completed(found: &[Assign]) -> End {
+    match found {
+        [two, three] => {
+            if *two == Assign::empty().with(0, 2) && *three == Assign::empty().with(0, 3) {
+                End::TwoAndThree
+            } else {
+                End::Others
+            }
+        }
+        _ => End::Others,
+    }
+}
+
+// How a search ends that has an answer.
+fn answered(answer: &CubeAnswer) -> End {
+    match answer {
+        CubeAnswer::Found(found) => completed(found.as_slice()),
+        CubeAnswer::Refuted(cite) => refuted(cite),
+    }
+}
+
+// How a search ends that has none.
+fn stopped(stop: SearchStop) -> End {
+    match stop {
+        SearchStop::Over => End::Over,
+        SearchStop::Memory => End::Memory,
+    }
+}
+
+// How a search ends.
+fn ended(searched: &Result<CubeAnswer, SearchStop>) -> End {
+    match searched {
+        Ok(answer) => answered(answer),
+        Err(stop) => stopped(*stop),
+    }
+}
+
+// How the search of the one cube of no positions ends.
+fn searched(alloc: Global, frame: &Frame, nodes: u32) -> Result<End, AllocError>
     requires some { 1 ≤ nodes }
     requires few { nodes ≤ NODES }
 {
@@ -37,85 +96,42 @@ fn search_all(alloc: Global, frame: &Frame, nodes: u32) -> Result<Option<CubeAns
     let mut board = PlainBoard::new(alloc, frame, problem)?;
     let mut index = Index::new(alloc, frame)?;
     match board.claim() {
-        None => Err("there is a cube".into()),
-        Some(cube) => answer_of(search_cube(alloc, &mut board, &mut index, cube)),
+        None => Ok(End::Unclaimed),
+        Some(cube) => Ok(ended(&search_cube(alloc, &mut board, &mut index, cube))),
     }
 }
 
-// The answer, unless no ticket was left.
-fn answer_of(searched: Result<CubeAnswer, SearchStop>) -> Result<Option<CubeAnswer>, Fail> {
-    match searched {
-        Ok(answer) => Ok(Some(answer)),
-        Err(stop) => match stop {
-            SearchStop::Over => Ok(None),
-            SearchStop::Memory => Err("memory".into()),
-        },
-    }
+// How that of four points ends.
+fn four_points_searched(alloc: Global, q: u32, nodes: u32) -> Option<End>
+    requires some { 1 ≤ nodes }
+    requires few { nodes ≤ NODES }
+{
+    let frame = four_points(alloc, q)?;
+    searched(alloc, &frame, nodes).ok()
 }
 
-// Why there is no completion, and nothing where there is one.
-fn cite_of(answer: &CubeAnswer) -> Cite {
-    match answer {
-        CubeAnswer::Refuted(cite) => *cite,
-        CubeAnswer::Found(_) => Cite::Nothing,
-    }
-}
-
-// The mask of the set that a cite is, 0 where it is none.
-fn mask_of(cite: Cite) -> u64 {
-    match cite {
-        Cite::Test(x) => x.mask(),
-        Cite::Nothing | Cite::Slot(_) => 0,
-    }
-}
-
-fn is_slot(cite: Cite) -> bool {
-    match cite {
-        Cite::Slot(_) => true,
-        Cite::Nothing | Cite::Test(_) => false,
-    }
+// How that of the Fano plane ends.
+fn fano_searched(alloc: Global) -> Option<End> {
+    let frame = fano(alloc)?;
+    searched(alloc, &frame, 15).ok()
 }
 
 #[test]
-fn four_points_have_two_completions_over_four_elements(rt: HostRuntime) -> Result<(), Fail> {
-    let frame = four_points(rt.alloc(), 4)?;
-    match search_all(rt.alloc(), &frame, 4)? {
-        Some(CubeAnswer::Refuted(_)) | None => Err("completions".into()),
-        Some(CubeAnswer::Found(found)) => {
-            let expected = [Assign::empty().with(0, 2), Assign::empty().with(0, 3)];
-            assert_eq!(rt; found.as_slice(), expected.as_slice());
-            Ok(())
-        }
-    }
+fn four_points_have_two_completions_over_four_elements(rt: HostRuntime) {
+    assert!(rt; four_points_searched(rt.alloc(), 4, 4) == Some(End::TwoAndThree));
 }
 
 #[test]
-fn the_fano_plane_is_refuted_by_a_row_over_three_elements(rt: HostRuntime) -> Result<(), Fail> {
-    let frame = fano(rt.alloc())?;
-    match search_all(rt.alloc(), &frame, 15)? {
-        Some(answer) => {
-            assert!(rt; is_slot(cite_of(&answer)));
-            Ok(())
-        }
-        None => Err("an answer".into()),
-    }
+fn the_fano_plane_is_refuted_by_a_row_over_three_elements(rt: HostRuntime) {
+    assert!(rt; fano_searched(rt.alloc()) == Some(End::Row));
 }
 
 #[test]
-fn four_points_are_refuted_by_a_set_over_two_elements(rt: HostRuntime) -> Result<(), Fail> {
-    let frame = four_points(rt.alloc(), 2)?;
-    match search_all(rt.alloc(), &frame, 1)? {
-        Some(answer) => {
-            assert_eq!(rt; mask_of(cite_of(&answer)), 0b1100);
-            Ok(())
-        }
-        None => Err("an answer".into()),
-    }
+fn four_points_are_refuted_by_a_set_over_two_elements(rt: HostRuntime) {
+    assert!(rt; four_points_searched(rt.alloc(), 2, 1) == Some(End::Set(0b1100)));
 }
 
 #[test]
-fn one_node_is_too_few_for_four_points(rt: HostRuntime) -> Result<(), Fail> {
-    let frame = four_points(rt.alloc(), 4)?;
-    assert!(rt; search_all(rt.alloc(), &frame, 1)?.is_none());
-    Ok(())
+fn one_node_is_too_few_for_four_points(rt: HostRuntime) {
+    assert!(rt; four_points_searched(rt.alloc(), 4, 1) == Some(End::Over));
 }
