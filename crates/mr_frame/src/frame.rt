@@ -413,13 +413,13 @@ impl Frame {
             &self.field,
             full,
             copy,
-            self.matroid.rank(),
-            self.matroid.elements(),
-            part.rows,
-            part.columns,
             place.row,
             place.col,
             spare,
+            part.rows,
+            part.columns,
+            self.matroid.rank(),
+            self.matroid.elements(),
         );
         values_where(&self.field, part.basis, dependent)
     }

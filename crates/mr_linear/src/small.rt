@@ -18,13 +18,13 @@ pub fn part_values(
     field: &Field,
     full: &[u8],
     copy: &mut [u8],
-    rows: u32,
-    cols: u32,
-    in_rows: Set,
-    x: Set,
     row: u32,
     column: u32,
     spare: u32,
+    in_rows: Set,
+    x: Set,
+    rows: u32,
+    cols: u32,
 ) -> Set
     requires shape { (length full.now ≡ CELLS) × (length copy.old ≡ CELLS) × (rows ≤ ELEMENTS) × (cols ≤ ELEMENTS) }
     requires elements { InField field.now full.now }

@@ -1,13 +1,12 @@
 -- The text of a log, piece by piece.
 use Rattle.std.proofs.Common.{◌≡◌, ◌≢◌, ℕ, zero, suc, ◌+◌, ◌*◌, ◌<◌, ◌≤◌, List, [], ◌∷◌, ◌++◌, length, take, get_or, map, refl, sym, ap, ◌∙◌, Bool, true, false, arith, append_assoc, append-nil, codes, Result, Ok, Err}
-use Rattle.std.specs.Prelude.{◌/◌, ◌%◌, ◌^◌, decimal, OnOk}
+use Rattle.std.specs.Prelude.{◌/◌, ◌%◌, decimal, OnOk}
 use Rattle.std.specs.List.{join_with_byte}
 use Rattle.std.proofs.lemmas.List.{take_more, map-append, length-take-le}
-use Rattle.std.proofs.Math.Nat.{zero-div}
 use Rattle.mr_assign.specs.declared.TheConstants.{POSITIONS}
 use Rattle.mr_assign.specs.Assign.{IsAssign}
-use Rattle.mr_assign.specs.Packing.{nibble, map_words}
-use Rattle.mr_assign.proofs.Maps.{value-view}
+use Rattle.mr_assign.specs.Packing.{map_words}
+use Rattle.mr_assign.proofs.Maps.{value-view, no_nibble}
 use Rattle.mr_assign.proofs.Masks.{nibbles-words_of}
 use Rattle.mr_text.specs.Text.{text_of_lines}
 use Rattle.mr_text.proofs.Listings.{lines-append}
@@ -69,9 +68,7 @@ pub zero_word : (a : List ℕ) → IsAssign a → (p : ℕ) → p % 16 ≡ 0 →
 zero_word a h p start small none k low =
     let word : (p + k) / 16 ≡ p / 16 = omega arith in
     sym (value-view (map_words a) a (p + k) (nibbles-words_of a h) (omega arith))
-    ∙ ap (λ (i : ℕ). nibble (get_or (map_words a) i 0) ((p + k) % 16)) word
-    ∙ ap (λ (w : ℕ). nibble w ((p + k) % 16)) none
-    ∙ ap (λ (w : ℕ). w % 16) (zero-div (2 ^ (4 * ((p + k) % 16))))
+    ∙ no_nibble (map_words a) (p + k) (ap (λ (i : ℕ). get_or (map_words a) i 0) word ∙ none)
 
 -- so it has no pairs
 pub pairs_of_zeros : (a : List ℕ) → IsAssign a → (p : ℕ) → p % 16 ≡ 0 → p + 16 ≤ POSITIONS → get_or (map_words a) (p / 16) 0 ≡ 0 → pair_texts 0 (take (p + 16) a) ≡ pair_texts 0 (take p a)

@@ -3,7 +3,7 @@ use Rattle.std.proofs.Common.{◌≡◌, ◌≢◌, ℕ, suc, ◌+◌, ◌-◌, 
 use Rattle.std.specs.Prelude.{◌/◌, ◌%◌, ◌^◌}
 use Rattle.std.specs.Int.{w64, leading_zeros}
 use Rattle.std.specs.Int.Count.{count_leading_zeros}
-use Rattle.std.proofs.Math.Nat.{zero-div, div-eq_of_lt, mod-eq_of_lt}
+use Rattle.std.proofs.Math.Nat.{div-eq_of_lt, mod-eq_of_lt}
 use Rattle.std.proofs.Math.Pow.{pow_mono}
 use Rattle.std.proofs.lemmas.Nat.{leading_top, pow_pos, pow-add, le-div, div_below}
 use Rattle.std.proofs.lemmas.Bool.{cases_lt}
@@ -11,7 +11,7 @@ use Rattle.std.proofs.lemmas.List.{get_or_past}
 use Rattle.mr_assign.specs.declared.TheConstants.{POSITIONS}
 use Rattle.mr_assign.specs.Assign.{IsAssign}
 use Rattle.mr_assign.specs.Packing.{nibble, map_words}
-use Rattle.mr_assign.proofs.Maps.{value-view}
+use Rattle.mr_assign.proofs.Maps.{value-view, no_nibble}
 use Rattle.mr_assign.proofs.Masks.{nibbles-words_of}
 
 -- the greatest bit of a word lies in its greatest nibble that isn't 0
@@ -69,9 +69,9 @@ after_nibble a h i k small later zeros q past = elim (cases_lt q (16 * (i + 1)))
 pub zero_word : (a : List ℕ) → IsAssign a → (i : ℕ) → i < 6 → IsEmptyFrom a (i + 1) → get_or (map_words a) i 0 ≡ 0 → IsEmptyFrom a i
 zero_word a h i small later none q past = elim (cases_lt q (16 * (i + 1))) [
   | inl inside ↦
-      let place : 16 * i + (q - 16 * i) ≡ q = omega arith in
-      let zero : nibble (get_or (map_words a) i 0) (q - 16 * i) ≡ 0 = ap (λ (w : ℕ). nibble w (q - 16 * i)) none ∙ ap (λ (w : ℕ). w % 16) (zero-div (2 ^ (4 * (q - 16 * i)))) in
-      subst (λ (p : ℕ). get_or a p 0 ≡ 0) place (sym (value_of_word a h i (q - 16 * i) (omega arith) (omega arith)) ∙ zero)
+      let word : q / 16 ≡ i = omega arith in
+      sym (value-view (map_words a) a q (nibbles-words_of a h) (omega arith))
+      ∙ no_nibble (map_words a) q (ap (λ (j : ℕ). get_or (map_words a) j 0) word ∙ none)
   | inr outside ↦ later q outside
 ]
 
