@@ -1,17 +1,17 @@
 ghost use Rattle.std.specs.Prelude.{◌≡◌, ◌↔◌, ◌<◌, ◌≤◌, ◌++◌, ℕ, List, IfOk, OnOk, All, Contains, length};
 ghost use Rattle.std.specs.List.Sorted.{IsStrictlySortedBy};
 ghost use Rattle.mr_set.specs.Subsets.{list_cmp};
+ghost use Rattle.mr_assign.specs.declared.TheConstants.{VALUES};
 ghost use Rattle.mr_class.specs.Forms.{IsForm};
 ghost use Rattle.mr_auto.specs.Private.Trial.{IsStart, AreAll};
 
-use crate::{OrbitList, orbits};
+use crate::{Orbit, OrbitList, orbits};
 use mr_assign::{Assign, AssignList};
 use mr_field::Field;
 use mr_frame::Frame;
 use mr_matroid::Matroid;
 use mr_set::{ELEMENTS, binomial, sets_of};
 use std::alloc::{AllocError, Global};
-use std::test::Fail;
 
 // Appends all of a list.
 fn append(all: &mut AssignList, more: &[Assign]) -> Result<(), AllocError>
@@ -65,60 +65,68 @@ fn forms_of(alloc: Global, frame: &Frame) -> Result<AssignList, AllocError>
     forms_from(alloc, frame, &Assign::empty(), 0)
 }
 
-// The orbits of the matroid with these nonbases over the field of q elements.
-fn solved(alloc: Global, n: u32, r: u32, masks: &[u64], q: u32) -> Result<OrbitList, Fail> {
+// The frame of the matroid with these nonbases over the field of q elements.
+fn frame(alloc: Global, n: u32, r: u32, masks: &[u64], q: u32) -> Option<Frame> {
     if n > ELEMENTS || r > n || binomial(n, r).is_none() {
-        return Err("the numbers are within the limits".into());
+        return None;
     }
-    let sets = sets_of(alloc, n, r, masks)?.ok_or("sets")?;
-    let m = Matroid::from_nonbases(alloc, n, r, sets.as_slice())?;
-    let frame = Frame::new(alloc, m, Field::of(q).ok_or("a field")?)?;
-    let forms = forms_of(alloc, &frame)?;
-    Ok(orbits(alloc, &frame, &forms)?)
+    let sets = sets_of(alloc, n, r, masks).ok()??;
+    let m = Matroid::from_nonbases(alloc, n, r, sets.as_slice()).ok()?;
+    Frame::new(alloc, m, Field::of(q)?).ok()
+}
+
+// The orbits of its forms.
+fn solved(alloc: Global, frame: &Frame) -> Result<OrbitList, AllocError> {
+    let forms = forms_of(alloc, frame)?;
+    orbits(alloc, frame, &forms)
+}
+
+// Whether these are the orbits.
+fn are_orbits(alloc: Global, frame: &Frame, wanted: &[Orbit]) -> Option<bool> {
+    let orbits = solved(alloc, frame).ok()?;
+    Some(orbits.as_slice() == wanted)
+}
+
+// Whether the line of four points has these orbits over the field of q elements.
+fn has_line_orbits(alloc: Global, q: u32, wanted: &[Orbit]) -> Option<bool> {
+    let line = frame(alloc, 4, 2, &[], q)?;
+    are_orbits(alloc, &line, wanted)
+}
+
+// The orbit of this size whose least form has this value at position 0 and no other.
+fn orbit(value: u8, size: u32) -> Orbit
+    requires { (0 < value) × (value ≤ VALUES) }
+{
+    let least = Assign::empty().with(0, value);
+    Orbit { least, size }
 }
 
 #[test]
-fn the_line_of_four_points_has_one_orbit_of_two_over_four_elements(
-    rt: HostRuntime,
-) -> Result<(), Fail> {
-    let none: [u64; 0] = [];
-    let orbits = solved(rt.alloc(), 4, 2, none.as_slice(), 4)?;
-    assert_eq!(rt; orbits.as_slice().len(), 1);
-    for orbit in orbits.as_slice() {
-        assert_eq!(rt; orbit.least, Assign::empty().with(0, 2));
-        assert_eq!(rt; orbit.size, 2);
-    }
-    Ok(())
+fn the_line_of_four_points_has_one_orbit_of_two_over_four_elements(rt: HostRuntime) {
+    let wanted = [orbit(2, 2)];
+    assert!(rt; has_line_orbits(rt.alloc(), 4, wanted.as_slice()) == Some(true));
 }
 
 #[test]
-fn the_line_of_four_points_has_four_orbits_over_nine_elements(rt: HostRuntime) -> Result<(), Fail> {
-    let none: [u64; 0] = [];
-    let orbits = solved(rt.alloc(), 4, 2, none.as_slice(), 9)?;
-    assert_eq!(rt; orbits.as_slice().len(), 4);
-    for (k, orbit) in orbits.as_slice().iter().enumerate() {
-        let want = [(2, 1), (3, 2), (4, 2), (5, 2)];
-        let found = (orbit.least.get(0), orbit.size);
-        assert_eq!(rt; Some(&found), want.get(k));
-        assert_eq!(rt; orbit.least.count(), 1);
-    }
-    Ok(())
+fn the_line_of_four_points_has_four_orbits_over_nine_elements(rt: HostRuntime) {
+    let wanted = [orbit(2, 1), orbit(3, 2), orbit(4, 2), orbit(5, 2)];
+    assert!(rt; has_line_orbits(rt.alloc(), 9, wanted.as_slice()) == Some(true));
 }
 
 // The nonbases 013, 024, 056, 125, 146, 236 and 345 of the Fano plane, by their masks.
+const LINES: [u64; 7] = [
+    0b0001011, 0b0010101, 0b1100001, 0b0100110, 0b1010010, 0b1001100, 0b0111000,
+];
+
+// Whether the plane has these orbits over eight elements.
+fn has_plane_orbits(alloc: Global, wanted: &[Orbit]) -> Option<bool> {
+    let plane = frame(alloc, 7, 3, LINES.as_slice(), 8)?;
+    are_orbits(alloc, &plane, wanted)
+}
+
 #[test]
-fn the_fano_plane_has_one_orbit_of_one_over_eight_elements(rt: HostRuntime) -> Result<(), Fail> {
-    let lines: [u64; 7] = [
-        0b0001011, 0b0010101, 0b1100001, 0b0100110, 0b1010010, 0b1001100, 0b0111000,
-    ];
-    let orbits = solved(rt.alloc(), 7, 3, lines.as_slice(), 8)?;
-    assert_eq!(rt; orbits.as_slice().len(), 1);
-    for orbit in orbits.as_slice() {
-        assert_eq!(rt;
-            orbit.least,
-            Assign::empty().with(0, 1).with(1, 1).with(2, 1)
-        );
-        assert_eq!(rt; orbit.size, 1);
-    }
-    Ok(())
+fn the_fano_plane_has_one_orbit_of_one_over_eight_elements(rt: HostRuntime) {
+    let least = Assign::empty().with(0, 1).with(1, 1).with(2, 1);
+    let wanted = [Orbit { least, size: 1 }];
+    assert!(rt; has_plane_orbits(rt.alloc(), wanted.as_slice()) == Some(true));
 }
