@@ -24,3 +24,4 @@ pub mod Changing
 pub mod Scanning
 pub mod Allowing
 pub mod OneByOne
+pub mod WordRows

@@ -1,8 +1,8 @@
 -- The boards of the tests may open their nodes.
-use Rattle.std.proofs.Common.{◌≡◌, ◌≢◌, ℕ, ◌+◌, ◌-◌, ◌^◌, ◌<◌, ◌≤◌, min, List, [], ◌∷◌, ◌++◌, length, replicate, get_or, set, Contains, sym, refl, ap, ◌∙◌, ⊎_elim, subst, arith, get_or-set_other}
+use Rattle.std.proofs.Common.{◌≡◌, ◌≢◌, ℕ, ◌+◌, ◌-◌, ◌^◌, ◌<◌, ◌≤◌, min, List, [], ◌∷◌, ◌++◌, length, replicate, get_or, set, Contains, Option, None, sym, refl, ap, ◌∙◌, ⊎_elim, subst, arith, get_or-set_other}
 use Rattle.std.proofs.Math.Nat.{zero-div, pow-suc, pow-zero}
 use Rattle.std.proofs.lemmas.Bool.{cases_eq, cases_lt}
-use Rattle.std.proofs.lemmas.List.{get_or-replicate, get_or_past}
+use Rattle.std.proofs.lemmas.List.{get_or-replicate, get_or_past, length-replicate}
 use Rattle.std.proofs.lemmas.List.Elements.{Contains-get_or}
 use Rattle.mr_field.specs.Gf.{Gf, gf2, gf3, gf4, gf5, gf7, gf8, gf9, order}
 use Rattle.mr_assign.specs.Assign.{IsPartOf, no_values}
@@ -10,12 +10,17 @@ use Rattle.mr_assign.specs.declared.TheConstants.{POSITIONS}
 use Rattle.mr_frame.specs.Frame.{Framed}
 use Rattle.mr_frame.specs.Test.{IsAssignmentOf}
 use Rattle.mr_nogood.specs.declared.row.Row.{Row}
+use Rattle.mr_nogood.specs.Follows.{Rows, in_slots}
 use Rattle.mr_exchange.specs.declared.TheConstants.{NODES}
 use Rattle.mr_exchange.specs.declared.problem.Problem.{Problem}
 use Rattle.mr_exchange.specs.Cubes.{values_at, cube_at, IsProblemOf}
+use Rattle.mr_exchange.specs.State.{new_state}
 use Rattle.mr_exchange.specs.Events.{IsNodeOf}
+use Rattle.mr_exchange.specs.Closed.{closed_is, IsShown}
 use Rattle.mr_exchange.specs.Board.{Holding, new_holding, CanOpen, GainsCube}
 use Rattle.mr_exchange.proofs.Lookups.{length-slots_of}
+use Rattle.mr_exchange.proofs.Holding.{in_slots-replicate}
+use Rattle.mr_exchange.proofs.Runs.{new_states_are_sound}
 use Rattle.mr_exchange.specs.Private.Trial.{HasOne, LookedOn}
 
 -- each field has a second element
@@ -98,4 +103,18 @@ problem_is f cubes nodes some few place is = record {
   few_nodes = few;
   is = ap (λ (c : ℕ). let made : Problem = record { depth = 1; cubes = c; nodes = nodes } in made) (is ∙ sym (pow-first (order f.field - 1)))
       ∙ ap (λ (d : ℕ). let made : Problem = record { depth = d; cubes = (order f.field - 1) ^ d; nodes = nodes } in made) (let least : 1 ≡ min 1 (length f.places) = omega arith in least);
+}
+
+-- what a state shows in which nothing happened
+pub untouched_shown : (f : Framed) (problem : Problem) (rows : List (Option Row)) → IsProblemOf f problem → rows ≡ replicate problem.nodes None → IsShown (closed_is f problem 0 0 rows)
+untouched_shown f problem rows possible none = record {
+  possible = possible;
+  state = new_state f problem 1;
+  frame = refl;
+  problem = refl;
+  sound = new_states_are_sound f problem 1 (omega arith);
+  size = ap length none ∙ length-replicate problem.nodes None;
+  rows = λ slot. sym (ap (λ (xs : List (Option Row)). in_slots xs slot) none ∙ ap (λ (known : Rows). known slot) (in_slots-replicate problem.nodes));
+  opened = omega arith;
+  claimed = omega arith;
 }

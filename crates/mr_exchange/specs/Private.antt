@@ -3,3 +3,5 @@ pub mod Plain
 pub mod Trial
 pub mod Held
 pub mod Deciding
+pub mod Packed
+pub mod Kept

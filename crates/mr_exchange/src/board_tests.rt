@@ -11,7 +11,7 @@ use crate::{AnswerList, Board, Closed, CubeAnswer, LOOKS, Look, PlainBoard, Prob
 use mr_assign::{Assign, AssignList};
 use mr_frame::Frame;
 use mr_nogood::{Cite, Row, follows};
-use std::alloc::Global;
+use std::alloc::{AllocError, Global};
 
 // The problem of splitting one position.
 fn split_once(frame: &Frame, nodes: u32) -> Option<Problem>
@@ -194,6 +194,33 @@ fn is_closed_elsewhere(alloc: Global) -> Option<bool> {
 #[test]
 fn a_plain_board_answers_as_its_pass_and_may_cross_threads_once_closed(rt: HostRuntime) {
     assert!(rt; is_closed_elsewhere(rt.alloc()) == Some(true));
+}
+
+// What a board shows in which nothing happened, from its parts.
+fn untouched(alloc: Global, frame: &Frame) -> Result<Closed, AllocError> {
+    let problem = Problem::of(frame, 1, 2);
+    let mut rows = SlotList::new(alloc);
+    rows.push(None)?;
+    rows.push(None)?;
+    Ok(Closed::of_parts(frame, problem, 0, 0, rows))
+}
+
+// Whether that is no node, no cube and no row.
+fn is_untouched_on(alloc: Global, frame: &Frame) -> Option<bool> {
+    let closed = untouched(alloc, frame).ok()?;
+    let counts = (closed.opened(), closed.claimed());
+    Some(counts == (0, 0) && closed.row(0).is_none() && closed.row(1).is_none())
+}
+
+// The same on the plane.
+fn is_untouched(alloc: Global) -> Option<bool> {
+    let fano = fano(alloc)?;
+    is_untouched_on(alloc, &fano)
+}
+
+#[test]
+fn a_closed_board_has_the_parts_that_it_is_made_of(rt: HostRuntime) {
+    assert!(rt; is_untouched(rt.alloc()) == Some(true));
 }
 
 // The list of the map with 1 at position 0.

@@ -1,9 +1,10 @@
 ghost use Rattle.std.specs.Prelude.{◌≡◌, IfSome};
 ghost use Rattle.mr_nogood.specs.Follows.{in_slots, Excludes};
 ghost use Rattle.mr_exchange.specs.Closed.{closed_is, IsShown, IsClosed};
+ghost use Rattle.mr_exchange.specs.Private.Kept.{rows_kept};
 
 use crate::slots::Slots;
-use crate::{Problem, SlotList};
+use crate::{PackedRows, Problem, SlotList};
 use mr_frame::Frame;
 use mr_nogood::Row;
 use std::marker::Model;
@@ -16,17 +17,25 @@ pub struct Closed {
     problem: Problem,
     opened: u32,
     claimed: u32,
-    rows: Slots,
+    rows: ClosedRows,
+}
+
+// The rows of a closed board, as it kept them or in words.
+#[derive(Drop)]
+pub(crate) enum ClosedRows {
+    Board(Slots),
+    Store(PackedRows),
 }
 
 impl Model for Closed {
     ghost use Rattle.mr_exchange.specs.Closed.{ClosedIs, closed_is, IsClosed};
+    ghost use Rattle.mr_exchange.specs.Private.Kept.{rows_kept};
 
     ghost Value = { ClosedIs };
 
-    ghost view = { λ c. closed_is c.frame.value c.problem c.opened c.claimed c.rows };
+    ghost view = { λ c. closed_is c.frame.value c.problem c.opened c.claimed (rows_kept c.rows) };
 
-    ghost invariant = { λ c. IsClosed (closed_is c.frame.value c.problem c.opened c.claimed c.rows) };
+    ghost invariant = { λ c. IsClosed (closed_is c.frame.value c.problem c.opened c.claimed (rows_kept c.rows)) };
 }
 
 impl Closed {
@@ -42,19 +51,35 @@ impl Closed {
         requires { IsShown (closed_is frame.now problem opened claimed rows) }
         ensures { result ≡ closed_is frame.now problem opened claimed rows }
     {
-        Closed::of_board(frame, problem, opened, claimed, Slots::of_list(rows))
+        let rows = ClosedRows::Board(Slots::of_list(rows));
+        Closed::of_rows(frame, problem, opened, claimed, rows)
     }
 
-    // The same of slots.
-    pub(crate) fn of_board(
+    /// The same of rows that are kept as words.
+    pub fn of_packed(
         frame: &Frame,
         problem: Problem,
         opened: u32,
         claimed: u32,
-        rows: Slots,
+        rows: PackedRows,
     ) -> Closed
         requires { IsShown (closed_is frame.now problem opened claimed rows) }
         ensures { result ≡ closed_is frame.now problem opened claimed rows }
+    {
+        let rows = ClosedRows::Store(rows);
+        Closed::of_rows(frame, problem, opened, claimed, rows)
+    }
+
+    // The same of rows wherever they are kept.
+    pub(crate) fn of_rows(
+        frame: &Frame,
+        problem: Problem,
+        opened: u32,
+        claimed: u32,
+        rows: ClosedRows,
+    ) -> Closed
+        requires { IsShown (closed_is frame.now problem opened claimed (rows_kept rows)) }
+        ensures { result ≡ closed_is frame.now problem opened claimed (rows_kept rows) }
     {
         // The clauses of `basis` say that it is a frame.
         let _basis = frame.basis();
@@ -89,6 +114,16 @@ impl Closed {
         ensures excludes { IfSome result (Excludes self.now.frame) }
         ensures shown { IsClosed self.now }
     {
-        self.rows.row(slot).copied()
+        row_in(&self.rows, slot)
+    }
+}
+
+// The row of a slot, if there is one.
+fn row_in(rows: &ClosedRows, slot: u32) -> Option<Row>
+    ensures { result ≡ in_slots (rows_kept rows.now) slot }
+{
+    match rows {
+        ClosedRows::Board(rows) => rows.row(slot).copied(),
+        ClosedRows::Store(rows) => rows.row(slot),
     }
 }

@@ -10,6 +10,7 @@ mod cube;
 mod event;
 mod fault;
 mod laws;
+mod packed;
 mod pass;
 mod plain;
 mod problem;
@@ -32,6 +33,7 @@ pub use laws::{
     passes_have_facts, reached_states_are_sound, rows_of_sound_states_exclude, rows_stay,
     words_are_small,
 };
+pub use packed::PackedRows;
 pub use plain::PlainBoard;
 pub use problem::Problem;
 pub use replaying::replay;

@@ -8,6 +8,7 @@ ghost use Rattle.mr_exchange.specs.Board.{Holding, new_holding, BoardFacts, CanO
 ghost use Rattle.mr_exchange.specs.Closed.{closed_is};
 ghost use Rattle.mr_exchange.specs.Plain.{PlainIs, plain_holding, IsPlainPass};
 
+use crate::closed::ClosedRows;
 use crate::slots::Slots;
 use crate::{Board, Closed, LOOKS, Look, Problem, SHORT, Ticket};
 use mr_assign::Assign;
@@ -78,7 +79,8 @@ impl<'f> PlainBoard<'f> {
     {
         let opened = self.tickets.len() as u32;
         let claimed = self.claimed();
-        Closed::of_board(self.frame, self.problem, opened, claimed, self.rows)
+        let rows = ClosedRows::Board(self.rows);
+        Closed::of_rows(self.frame, self.problem, opened, claimed, rows)
     }
 
     // How many cubes were claimed.

@@ -40,8 +40,8 @@ pub fn run_pool<R: Threads + Sync, G: Gate + Sync>(
     let made = Store::new(alloc, frame, problem, workers)?;
     let (store, first) = made;
     let Worked { card, answers } = work(rt, alloc, &store, first, workers, gate);
-    let Ok(closed) = store.close(alloc, card) else {
-        return Err(PoolStop::Memory);
+    let Ok(closed) = store.close(card) else {
+        unreachable!()
     };
     match answers {
         Ok(answers) => Ok(PoolAnswer { answers, closed }),

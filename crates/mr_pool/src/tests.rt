@@ -154,7 +154,7 @@ fn left_on<R: Threads + Sync>(rt: &R, alloc: Global, frame: &Frame) -> Option<u3
     let (store, first) = Store::new(alloc, frame, Problem::of(frame, 1, 1), 3).ok()?;
     let Worked { card, answers } = work(rt, alloc, &store, first, 2, &Silent);
     let stopped = matches!(answers, Err(WorkStop::Over));
-    match store.close(alloc, card) {
+    match store.close(card) {
         Ok(closed) if stopped => Some(closed.opened()),
         _ => None,
     }

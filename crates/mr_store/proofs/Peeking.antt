@@ -1,8 +1,8 @@
 -- What the first pass reads where each other pass was joined into it.
-use Rattle.std.proofs.Common.{◌≡◌, ◌≢◌, ℕ, zero, suc, ◌+◌, ◌<◌, ◌≤◌, min, IsTrue, IsSome, List, [], ◌∷◌, ◌++◌, length, length-append, slice_index, Option, Some, None, refl, sym, ap, ◌∙◌, ⊎_elim, subst, arith}
+use Rattle.std.proofs.Common.{◌≡◌, ◌≢◌, ℕ, ◌+◌, ◌<◌, ◌≤◌, min, IsTrue, IsSome, List, length, length-set, set, slice_index, Option, Some, None, refl, sym, ap, ◌∙◌, ⊎_elim, subst, arith, inl, inr}
 use mathlib.Core.Option.{some}
 use mathlib.Core.Option as plain
-use Rattle.std.proofs.lemmas.Bool.{cases_lt}
+use Rattle.std.proofs.lemmas.Bool.{cases_eq, cases_lt}
 use Rattle.atomic_table.specs.Table.{Me, Allows, step}
 use Rattle.atomic_table.specs.Table.Act.{keeps}
 use Rattle.atomic_table.specs.Seated.{TableId}
@@ -15,12 +15,13 @@ use Rattle.mr_exchange.specs.Cubes.{IsProblemOf}
 use Rattle.mr_exchange.specs.State.{State, head_at, known_rows}
 use Rattle.mr_exchange.specs.Facts.{PassFacts, IsWhole}
 use Rattle.mr_exchange.specs.Closed.{closed_is, IsShown}
+use Rattle.mr_exchange.proofs.Holding.{in_slots_here, in_slots_else}
 use Rattle.mr_exchange.proofs.OnePass.{passes_have_facts}
 use Rattle.mr_exchange.proofs.Holdings.{known_there, unknown_empty}
 use Rattle.mr_store.specs.Seats.{Setting, Seen, find, known_of}
 use Rattle.mr_store.specs.Shown.{shown, Holds}
 use Rattle.mr_store.specs.Steps.{IsShownIn, HasAll, Peeks}
-use Rattle.mr_store.specs.Private.Laying.{HasRow, AreRows}
+use Rattle.mr_store.specs.Private.Laying.{HasRow, AreRows, with_found}
 use Rattle.mr_store.specs.Private.Cards.{IsCard}
 use Rattle.mr_store.proofs.Finding.{find_in, known_found_row}
 use Rattle.mr_store.proofs.Words.{head_at-rows_of}
@@ -45,13 +46,13 @@ module _ (s : State) (v : Seen) (i : IsShownIn s v) (h : HasAll v) where
       read None e = e ∙ sym (unknown_empty s v.pass slot e)
       read (Some row) e = sym (known_there s v.pass slot ((whole.rows slot).0 (subst IsSome (sym e) refl)))
 
-  -- a slot past the last has no row
-  pub none_past : (slot : ℕ) → s.problem.nodes ≤ slot → s.rows slot ≡ None
+  -- a slot past the tickets that were drawn has no row
+  pub none_past : (slot : ℕ) → length v.pass.tickets ≤ slot → s.rows slot ≡ None
   none_past slot past = read (s.rows slot) refl
     where
       read : (o : Option Row) → s.rows slot ≡ o → s.rows slot ≡ None
       read None e = e
-      read (Some row) e = absurd (let low = facts.drawn slot ((whole.rows slot).0 (subst IsSome (sym e) refl)) in omega arith)
+      read (Some row) e = absurd (let low = facts.drawn slot ((whole.rows slot).0 (subst IsSome (sym e) refl)) in let count = whole.opened in omega arith)
 
 -- a load by the seat of such a pass
 pub peeks : (g : Setting) (slots id i : ℕ) (m : Me (Unit {0}) Seen) → IsTrue m.0.pass.live → Allows (Holds g) slots id m i (λ n. n) (Peeks (step slots i 0 0 plain.none) m)
@@ -73,15 +74,7 @@ peeks g slots id i m live s h homes at fits =
       },
     )
 
--- where the head is 0 no row is known
-pub peek_none : (v : Seen) (slot head : ℕ) → head ≡ head_at (known_of v slot) → head ≡ 0 → None ≡ known_of v slot
-peek_none v slot head is zero_head = read (known_of v slot) refl
-  where
-    read : (o : Option Row) → known_of v slot ≡ o → None ≡ known_of v slot
-    read None e = sym e
-    read (Some row) e = absurd (let h = sym zero_head ∙ is ∙ ap head_at e in omega arith)
-
--- where it isn't there is one
+-- where the head isn't 0 a row is known
 pub peek_has : (v w : Seen) (slot head : ℕ) → w ≡ v → head ≡ head_at (known_of v slot) → head ≢ 0 → ((row : Row) → find v.found slot ≡ Some row → IsRow row) → HasRow w slot head
 peek_has v w slot head same is some_row good = subst (λ (x : Seen). HasRow x slot head) (sym same) (read (known_of v slot) refl)
   where
@@ -89,46 +82,50 @@ peek_has v w slot head same is some_row good = subst (λ (x : Seen). HasRow x sl
     read None e = absurd (some_row (is ∙ ap head_at e))
     read (Some row) e = (let found = known_found_row v slot row e in record { row = row; at = found; good = good row found; head_is = is ∙ ap head_at e })
 
--- and it is the one that was found
-pub peek_some : (v w : Seen) (slot head : ℕ) (row : Row) → w ≡ v → head ≡ head_at (known_of v slot) → head ≢ 0 → find w.found slot ≡ Some row → Some row ≡ known_of v slot
-peek_some v w slot head row same is some_row found = read (known_of v slot) refl
+-- the row of one slot more is read
+pub rows_more : (v : Seen) (slots n : ℕ) (rows new : List (Option Row)) → AreRows v slots n rows → n < slots → new ≡ with_found n (known_of v n) rows → AreRows v slots (n + 1) new
+rows_more v slots n rows new h lt is = subst (AreRows v slots (n + 1)) (sym is) (read (known_of v n) refl)
   where
-    read : (o : Option Row) → known_of v slot ≡ o → Some row ≡ known_of v slot
-    read None e = absurd (some_row (is ∙ ap head_at e))
-    read (Some known) e = sym (ap (λ (x : Seen). find x.found slot) (sym same) ∙ found) ∙ known_found_row v slot known e ∙ sym e
+    size : length rows ≡ slots
+    size = h.size
 
--- what stands in a list with one more
-in_slots-push : (rows : List (Option Row)) (x : Option Row) (slot n : ℕ) → length rows ≡ n → ((slot < n → in_slots (rows ++ x ∷ []) slot ≡ in_slots rows slot) × (slot ≡ n → in_slots (rows ++ x ∷ []) slot ≡ x))
-in_slots-push [] x zero n size = ((λ lt. absurd (omega arith)), λ e. refl)
-in_slots-push [] x (suc slot) n size = ((λ lt. absurd (omega arith)), λ e. absurd (omega arith))
-in_slots-push (y ∷ rows) x zero n size = ((λ lt. refl), λ e. absurd (omega arith))
-in_slots-push (y ∷ rows) x (suc slot) zero size = absurd (omega arith)
-in_slots-push (y ∷ rows) x (suc slot) (suc n) size = let rest = in_slots-push rows x slot n (omega arith) in ((λ lt. rest.0 (omega arith)), λ e. rest.1 (omega arith))
+    read : (o : Option Row) → known_of v n ≡ o → AreRows v slots (n + 1) (with_found n o rows)
+    read None e = record {
+      size = size;
+      each = λ slot low. elim (cases_eq slot n) as (λ _. in_slots rows slot ≡ known_of v slot) [
+        | inl same ↦ ap (in_slots rows) same ∙ h.others n (omega arith) ∙ sym e ∙ ap (known_of v) (sym same)
+        | inr other ↦ h.each slot (omega arith)
+      ];
+      others = λ slot past. h.others slot (omega arith);
+    }
+    read (Some row) e = record {
+      size = length-set rows n (Some row) ∙ size;
+      each = λ slot low. elim (cases_eq slot n) as (λ _. in_slots (set rows n (Some row)) slot ≡ known_of v slot) [
+        | inl same ↦ ap (in_slots (set rows n (Some row))) same ∙ in_slots_here rows n (Some row) (omega arith) ∙ sym e ∙ ap (known_of v) (sym same)
+        | inr other ↦ in_slots_else rows n slot (Some row) other ∙ h.each slot (omega arith)
+      ];
+      others = λ slot past. in_slots_else rows n slot (Some row) (λ same. omega arith) ∙ h.others slot (omega arith);
+    }
 
--- one row more is read
-pub rows_more : (v : Seen) (n : ℕ) (rows : List (Option Row)) (x : Option Row) → AreRows v n rows → x ≡ known_of v n → AreRows v (n + 1) (rows ++ x ∷ [])
-rows_more v n rows x h is = record {
-  size = (let a = length-append rows (x ∷ []) in let b = h.size in omega arith);
-  each = λ slot lt. (let pushed = in_slots-push rows x slot n h.size in ⊎_elim (λ (l : slot < n). pushed.0 l ∙ h.each slot l) (λ (ge : n ≤ slot). let e : slot ≡ n = omega arith in pushed.1 e ∙ is ∙ ap (known_of v) (sym e)) (cases_lt slot n));
-}
+-- the list has the rows of all slots for which a ticket was drawn
+abbrev pub HasAllRows : Seen → List (Option Row) → Type 0
+HasAllRows v rows = AreRows v v.setting.problem.nodes (length v.pass.tickets) rows
 
--- past the end of a list there are no rows
-in_slots-past : (rows : List (Option Row)) (slot : ℕ) → length rows ≤ slot → in_slots rows slot ≡ None
-in_slots-past [] slot past = refl
-in_slots-past (x ∷ rows) zero past = absurd (omega arith)
-in_slots-past (x ∷ rows) (suc slot) past = in_slots-past rows slot (omega arith)
+-- that is what was read in the end
+pub all_read : (v w : Seen) (slots n : ℕ) (rows : List (Option Row)) → AreRows w slots n rows → w ≡ v → slots ≡ v.setting.problem.nodes → n ≡ length v.pass.tickets → HasAllRows v rows
+all_read v w slots n rows h same wide drawn =
+    subst (λ (x : Seen). AreRows x v.setting.problem.nodes (length v.pass.tickets) rows) same
+    (subst (λ k. AreRows w k (length v.pass.tickets) rows) wide (subst (λ k. AreRows w slots k rows) drawn h))
 
--- the list has all the rows
-pub all_rows : (v : Seen) (s : State) (rows : List (Option Row)) → IsShownIn s v → HasAll v → AreRows v v.setting.problem.nodes rows → (slot : ℕ) → s.rows slot ≡ in_slots rows slot
-all_rows v s rows i h are slot =
-    let nodes : s.problem.nodes ≡ v.setting.problem.nodes = ap (λ (g : Setting). g.problem.nodes) i.setting in
-    let size = are.size in ⊎_elim
-    (λ (lt : slot < v.setting.problem.nodes). knows_all s v i h slot ∙ sym (are.each slot lt))
-    (λ (past : v.setting.problem.nodes ≤ slot). none_past s v i h slot (omega arith) ∙ sym (in_slots-past rows slot (omega arith)))
-    (cases_lt slot v.setting.problem.nodes)
+-- it has all the rows
+pub all_rows : (v : Seen) (s : State) (rows : List (Option Row)) → IsShownIn s v → HasAll v → HasAllRows v rows → (slot : ℕ) → s.rows slot ≡ in_slots rows slot
+all_rows v s rows i h are slot = ⊎_elim
+    (λ (lt : slot < length v.pass.tickets). knows_all s v i h slot ∙ sym (are.each slot lt))
+    (λ (past : length v.pass.tickets ≤ slot). none_past s v i h slot past ∙ sym (are.others slot past))
+    (cases_lt slot (length v.pass.tickets))
 
 -- what is shown when a store is closed
-pub closed_shown : (id : TableId) (problem : Problem) (cursor latest : ℕ) (m : Me (Unit {0}) Seen) (f : Framed) (opened claimed : ℕ) (rows : List (Option Row)) → IsCard id problem cursor latest m → HasAll m.0 → m.0.setting.frame ≡ f → AreRows m.0 problem.nodes rows
+pub closed_shown : (id : TableId) (problem : Problem) (cursor latest : ℕ) (m : Me (Unit {0}) Seen) (f : Framed) (opened claimed : ℕ) (rows : List (Option Row)) → IsCard id problem cursor latest m → HasAll m.0 → m.0.setting.frame ≡ f → HasAllRows m.0 rows
     → opened ≡ length m.0.pass.tickets → claimed ≡ length m.0.pass.cubes → IsShown (closed_is f problem opened claimed rows)
 closed_shown id problem cursor latest m f opened claimed rows c h frame are opened_is claimed_is =
     let v : Seen = m.0 in
@@ -142,13 +139,12 @@ closed_shown id problem cursor latest m f opened claimed rows c h frame are open
       frame = frame_is;
       problem = problem_is;
       sound = i.sound;
-      size = are.size;
-      rows = all_rows v s rows i h (subst (λ (p : Problem). AreRows v p.nodes rows) c.problem_is are);
+      size = are.size ∙ ap (λ (p : Problem). p.nodes) (sym c.problem_is);
+      rows = all_rows v s rows i h are;
       opened = opened_is ∙ w.opened ∙ ap (λ (p : Problem). min s.ticket p.nodes) problem_is;
       claimed = claimed_is ∙ w.claimed ∙ ap (λ (p : Problem). min s.claim p.cubes) problem_is;
     }
 
 -- and its rows are those that the pass knows
-pub closed_rows : (id : TableId) (problem : Problem) (cursor latest : ℕ) (m : Me (Unit {0}) Seen) (rows : List (Option Row)) → IsCard id problem cursor latest m → HasAll m.0 → AreRows m.0 problem.nodes rows → (slot : ℕ) → in_slots rows slot ≡ known_of m.0 slot
-closed_rows id problem cursor latest m rows c h are slot =
-    sym (all_rows m.0 c.shown.0 rows c.shown.1 h (subst (λ (p : Problem). AreRows m.0 p.nodes rows) c.problem_is are) slot) ∙ knows_all c.shown.0 m.0 c.shown.1 h slot
+pub closed_rows : (id : TableId) (problem : Problem) (cursor latest : ℕ) (m : Me (Unit {0}) Seen) (rows : List (Option Row)) → IsCard id problem cursor latest m → HasAll m.0 → HasAllRows m.0 rows → (slot : ℕ) → in_slots rows slot ≡ known_of m.0 slot
+closed_rows id problem cursor latest m rows c h are slot = sym (all_rows m.0 c.shown.0 rows c.shown.1 h are slot) ∙ knows_all c.shown.0 m.0 c.shown.1 h slot

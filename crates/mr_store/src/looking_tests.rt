@@ -160,7 +160,7 @@ fn play_two(store: &Store, mut first: Card) -> (Card, bool)
 fn sees_on(alloc: Global, frame: &Frame) -> Option<bool> {
     let (store, first) = Store::new(alloc, frame, Problem::of(frame, 1, 10), 2).ok()?;
     let (first, right) = play_two(&store, first);
-    let closed = closed(store, alloc, first)?;
+    let closed = closed(store, first)?;
     Some(right && shows(&closed, 3, 2, &[row()]))
 }
 

@@ -287,7 +287,7 @@ fn is_right_on<R: Threads + Sync>(rt: &R, alloc: Global, frame: &Frame, passes: 
 {
     let (store, first) = Store::new(alloc, frame, Problem::of(frame, DEPTH, NODES), passes).ok()?;
     let all = play(rt, alloc, &store, first, passes)?;
-    let closed = closed(store, alloc, all.card)?;
+    let closed = closed(store, all.card)?;
     Some(all.given.right && is_whole(&closed, all.given))
 }
 

@@ -1,5 +1,5 @@
 // Steps of a seat.
-ghost use Rattle.std.specs.Prelude.{◌≡◌, ◌<◌, ◌≤◌, ◌≢◌, ◌+◌, ◌^◌, IsTrue, ℕ, [], slice_index, length, IfOk, Some, None, Contains};
+ghost use Rattle.std.specs.Prelude.{◌≡◌, ◌<◌, ◌≤◌, ◌≢◌, ◌+◌, ◌^◌, IsTrue, ℕ, [], slice_index, length, replicate, Some, None, Contains};
 ghost use mathlib.Core.Option.{none};
 ghost use Rattle.atomic_table.specs.Table.{step};
 ghost use Rattle.mr_nogood.specs.declared.TheConstants.{ROW_WORDS};
@@ -12,16 +12,15 @@ ghost use Rattle.mr_exchange.specs.Events.{seen};
 ghost use Rattle.mr_exchange.specs.Board.{CanOpen, CanPublish, pairs_shown};
 ghost use Rattle.mr_store.specs.Seats.{find, word_at, holding_seen, known_of};
 ghost use Rattle.mr_store.specs.Steps.{Opens, Publishes, Looks, Checks, HasAll};
-ghost use Rattle.mr_store.specs.Private.Laying.{IsLaid, HasRow, row_seen, AreRows};
+ghost use Rattle.mr_store.specs.Private.Laying.{IsLaid, HasRow, row_seen, AreRows, with_found};
 
 use crate::key::Key;
 use crate::rule::{Check, Lay, LookAt, Noded, Open, Peek, Publish, Read, Rowed, Ruled};
 use crate::view::View;
 use atomic_table::{Seat, Shared};
 use mr_assign::Assign;
-use mr_exchange::{Look, SHORT, SlotList};
+use mr_exchange::{Look, PackedRows, SHORT};
 use mr_nogood::{ROW_WORDS, Row, row_of};
-use std::alloc::{AllocError, Global};
 
 pub(crate) type Words = Shared<(), View, Key, Ruled>;
 
@@ -161,44 +160,44 @@ pub(crate) fn opened(words: &Words, seat: &mut Seat<(), View>, nodes: u32) -> u3
     requires nodes { nodes ≡ seat.old.me.0.setting.problem.nodes }
     ensures same { (seat.new.table_id ≡ seat.old.table_id) × (seat.new.id ≡ seat.old.id) × (seat.new.me ≡ seat.old.me) }
     ensures count { result ≡ length seat.old.me.0.pass.tickets }
+    ensures few { result ≤ nodes }
 {
     words.load::<Peek>(seat, 1).min(u64::from(nodes)) as u32
 }
 
-/// The rows of the first slots.
+/// Puts the rows of the first slots, for as many nodes as were opened, into slots without rows.
 pub(crate) fn read_rows(
     words: &Words,
     seat: &mut Seat<(), View>,
-    nodes: u32,
-    alloc: Global,
-) -> Result<SlotList, AllocError>
-    requires table { (seat.old.table_id ≡ words.now.table_id) × (word_at nodes 0 ≤ words.now.table_id.words) }
+    opened: u32,
+    rows: &mut PackedRows,
+)
+    requires table { (seat.old.table_id ≡ words.now.table_id) × (word_at opened 0 ≤ words.now.table_id.words) }
     requires live { IsTrue seat.old.me.0.pass.live }
     requires all { HasAll seat.old.me.0 }
+    requires opened { opened ≤ length rows.old }
+    requires none { rows.old ≡ replicate (length rows.old) None }
     ensures same { (seat.new.table_id ≡ seat.old.table_id) × (seat.new.id ≡ seat.old.id) × (seat.new.me ≡ seat.old.me) }
-    ensures rows { IfOk result (AreRows seat.old.me.0 nodes) }
+    ensures rows { AreRows seat.old.me.0 (length rows.old) opened rows.new }
 {
-    let mut rows = SlotList::new(alloc);
-    for slot in 0..nodes {
-        let row = peek_row(words, seat, slot);
-        rows.push(row)?;
+    for slot in 0..opened {
+        read_slot(words, seat, slot, rows);
     }
-    Ok(rows)
 }
 
-// The row of a slot, if it has one.
-fn peek_row(words: &Words, seat: &mut Seat<(), View>, slot: u32) -> Option<Row>
+// Puts the row of a slot into one without, if there is a row.
+fn read_slot(words: &Words, seat: &mut Seat<(), View>, slot: u32, rows: &mut PackedRows)
     requires table { (seat.old.table_id ≡ words.now.table_id) × (word_at slot ROW_WORDS ≤ words.now.table_id.words) }
     requires live { IsTrue seat.old.me.0.pass.live }
     requires all { HasAll seat.old.me.0 }
+    requires slot { slot < length rows.old }
     ensures same { (seat.new.table_id ≡ seat.old.table_id) × (seat.new.id ≡ seat.old.id) × (seat.new.me ≡ seat.old.me) }
-    ensures row { result ≡ known_of seat.old.me.0 slot }
+    ensures rows { rows.new ≡ with_found slot (known_of seat.old.me.0 slot) rows.old }
 {
     let head = words.load::<Peek>(seat, word_at(slot, 0));
-    if head == 0 {
-        return None;
+    if head != 0 {
+        rows.put(slot, &read_words(words, seat, slot, head));
     }
-    Some(read_row(words, seat, slot, head))
 }
 
 // Word j of a slot.

@@ -13,7 +13,7 @@ use crate::rule::{Fork, Ruled};
 use crate::steps::check;
 use crate::view::View;
 use atomic_table::Table;
-use mr_exchange::Problem;
+use mr_exchange::{PackedRows, Problem};
 use mr_frame::Frame;
 use mr_nogood::ROW_WORDS;
 use std::alloc::{AllocError, Global};
@@ -25,6 +25,8 @@ use std::snapshot::Snapshot;
 pub struct Store<'f> {
     pub(crate) frame: &'f Frame,
     pub(crate) table: Table<(), View, Key, Ruled, Global>,
+    // Slots without rows, for the closed board. Their memory is that of the zeros with which the words began.
+    pub(crate) rows: PackedRows,
 }
 
 impl<'f> Model for Store<'f> {
@@ -36,11 +38,12 @@ impl<'f> Model for Store<'f> {
 
     ghost view = { λ s. record { id = s.table.shared.table_id; setting = setting s.table.shared.key } };
 
-    ghost invariant = { λ s. IsStore s.table.shared.table_id (setting s.table.shared.key) s.frame.now };
+    ghost invariant = { λ s. IsStore s.table.shared.table_id (setting s.table.shared.key) s.frame.now s.rows };
 }
 
 impl<'f> Store<'f> {
-    /// A store for so many passes at most, and the card of the first, which has and knows nothing.
+    /// A store for so many passes at most, and the card of the first, which has and knows nothing. All memory is taken here,
+    /// that for the close too; the error is want of it.
     pub fn new(
         alloc: Global,
         frame: &'f Frame,
@@ -69,7 +72,8 @@ impl<'f> Store<'f> {
             cursor: 0,
             latest: 0,
         };
-        Ok((Store { frame, table }, card))
+        let rows = PackedRows::of_zeros(words, problem.nodes);
+        Ok((Store { frame, table, rows }, card))
     }
 
     /// The frame that the problem is one of.

@@ -136,10 +136,10 @@ fn sees<B: Board>(board: &mut B, look: Look) -> bool
 }
 
 // Closes a store whose passes are all joined.
-pub(crate) fn closed(store: Store, alloc: Global, first: Card) -> Option<Closed>
+pub(crate) fn closed(store: Store, first: Card) -> Option<Closed>
     requires { IsGathered store 0 first }
 {
-    store.close(alloc, first).ok()
+    store.close(first).ok()
 }
 
 // Whether a board shows so many openings and claims, and in its slots just these rows, from 0 on.
@@ -266,7 +266,7 @@ fn play_four(store: &Store, mut first: Card) -> (Card, bool)
 fn meets_on(alloc: Global, frame: &Frame) -> Option<bool> {
     let (store, first) = Store::new(alloc, frame, Problem::of(frame, 2, 10), 4).ok()?;
     let (first, right) = play_four(&store, first);
-    let closed = closed(store, alloc, first)?;
+    let closed = closed(store, first)?;
     Some(right && shows(&closed, 4, 4, &[long_row(), short_row()]))
 }
 
@@ -295,7 +295,7 @@ fn claim_first(store: &Store, first: Card) -> (Card, bool)
 fn is_unopened_on(alloc: Global, frame: &Frame) -> Option<bool> {
     let (store, first) = Store::new(alloc, frame, Problem::of(frame, 1, 10), 3).ok()?;
     let (first, right) = claim_first(&store, first);
-    let closed = closed(store, alloc, first)?;
+    let closed = closed(store, first)?;
     Some(right && shows(&closed, 0, 1, &[]))
 }
 
