@@ -27,7 +27,7 @@ pub enum CheckFault {
     Memory,
 }
 
-/// Whether the bytes are an accepted log over the field. Memory is taken by the lines that were read.
+/// Whether the bytes are an accepted log over the field.
 pub fn check(alloc: Global, bytes: &[u8], field: Field) -> Result<Accepted, CheckFault>
     requires { length bytes.now + 1 < 2 ^ 32 }
 

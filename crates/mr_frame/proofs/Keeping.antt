@@ -15,9 +15,10 @@ use Rattle.mr_frame.specs.Frame.{Framed, IsExchange}
 use Rattle.mr_frame.specs.Test.{IsCell, Needs}
 use Rattle.mr_frame.specs.Private.Building.{AreSets, HasAndNot}
 use Rattle.mr_frame.specs.Private.Filling.{AreRows}
-use Rattle.mr_frame.specs.Private.Kept.{IsKept, AreDue}
+use Rattle.mr_frame.specs.Private.Kept.{IsKept, AreDueParts}
 use Rattle.mr_frame.specs.declared.cell.Cell.{Cell}
 use Rattle.mr_frame.specs.declared.cell.Cell.TheVariants.{Zero}
+use Rattle.mr_frame.specs.declared.part.Part.{Part}
 use Rattle.mr_frame.proofs.Needed.{needs_at}
 use Rattle.mr_frame.proofs.Uniqueness.{place_exchange}
 
@@ -25,9 +26,9 @@ use Rattle.mr_frame.proofs.Uniqueness.{place_exchange}
 pub kept_now : {f g : Framed} {cells : List Cell} {tests : List (List (List ℕ))} → f ≡ g → IsKept f cells tests → IsKept g cells tests
 kept_now {cells = cells} {tests = tests} same kept = subst (λ (h : Framed). IsKept h cells tests) same kept
 
--- so are the lists of the last positions
-pub due_now : {f g : Framed} {tests due : List (List (List ℕ))} → f ≡ g → AreDue f tests due → AreDue g tests due
-due_now {tests = tests} {due = due} same are = subst (λ (h : Framed). AreDue h tests due) same are
+-- so is what is kept of the sets of the last positions
+pub due_now : {f g : Framed} {tests : List (List (List ℕ))} {parts : List (List Part)} → f ≡ g → AreDueParts f tests parts → AreDueParts g tests parts
+due_now {tests = tests} {parts = parts} same are = subst (λ (h : Framed). AreDueParts h tests parts) same are
 
 module _ (f : Framed) (cells : List Cell) (tests : List (List (List ℕ))) (kept : IsKept f cells tests) where
   -- the cell that is read is the one there

@@ -7,8 +7,8 @@ use Rattle.std.proofs.lemmas.List.Elements.{Contains-get_or}
 use Rattle.mr_set.specs.Subsets.{IsSetOf, list_cmp}
 use Rattle.mr_frame.specs.Frame.{Framed}
 use Rattle.mr_frame.specs.Test.{NeedsLast}
-use Rattle.mr_frame.specs.Private.Kept.{IsKept, AreDue}
-use Rattle.mr_frame.specs.Private.Parts.{IsPartOfSet, AreParts, ArePartLists}
+use Rattle.mr_frame.specs.Private.Kept.{IsKept, AreDueParts}
+use Rattle.mr_frame.specs.Private.Parts.{IsPartOfSet, AreParts}
 use Rattle.mr_frame.specs.declared.cell.Cell.{Cell}
 use Rattle.mr_frame.specs.declared.part.Part.{Part}
 use Rattle.mr_frame.proofs.Lasting.{read_due}
@@ -25,29 +25,25 @@ pub record AreOfFrame (f : Framed) (p : ℕ) (parts : List Part) : Type 0 where
   pub each : (k : ℕ) (part : Part) → slice_get parts k ≡ Some part → IsPartOfSet f.matroid f.basis part.set part
 
 -- so it is with the list that is read
-pub parts_of_frame : (f : Framed) (cells : List Cell) (tests due : List (List (List ℕ))) (lists : List (List Part)) → IsKept f cells tests → AreDue f tests due → ArePartLists f.matroid f.basis due lists →
+pub parts_of_frame : (f : Framed) (cells : List Cell) (tests : List (List (List ℕ))) (lists : List (List Part)) → IsKept f cells tests → AreDueParts f tests lists →
     (p : ℕ) (parts : List Part) → p < length f.places → parts ≡ get_or lists p parts → AreOfFrame f p parts
-parts_of_frame f cells tests due lists kept are own p parts within read = record {
+parts_of_frame f cells tests lists kept all p parts within read = record {
   sorted = subst (IsStrictlySortedBy list_cmp) (sym same) sets.0;
   exactly = λ x. subst (λ (xs : List (List ℕ)). Contains xs x ↔ (IsSetOf f.matroid.elements f.matroid.rank x × NeedsLast f x p)) (sym same) (sets.1 x);
   each = λ k part is. let of_set = here.each k part is in subst (λ (x : List ℕ). IsPartOfSet f.matroid f.basis x part) (sym of_set.set) of_set;
 }
   where
-    small : p < length due
-    small = let count = kept.test_count in let size = are.count in omega arith
+    small : p < length all.due
+    small = let count = kept.test_count in let size = all.are.count in omega arith
 
-    here : AreParts f.matroid f.basis (get_or due p []) parts
-    here = subst (AreParts f.matroid f.basis (get_or due p [])) (sym (read ∙ get_or_default lists p parts [] (let count = own.count in omega arith))) (own.each p small)
+    here : AreParts f.matroid f.basis (get_or all.due p []) parts
+    here = subst (AreParts f.matroid f.basis (get_or all.due p [])) (sym (read ∙ get_or_default lists p parts [] (let count = all.kept.count in omega arith))) (all.kept.each p small)
 
-    same : sets_of parts ≡ get_or due p []
-    same = sets_of_parts f.matroid f.basis (get_or due p []) parts here
+    same : sets_of parts ≡ get_or all.due p []
+    same = sets_of_parts f.matroid f.basis (get_or all.due p []) parts here
 
-    sets : IsStrictlySortedBy list_cmp (get_or due p []) × ((x : List ℕ) → Contains (get_or due p []) x ↔ (IsSetOf f.matroid.elements f.matroid.rank x × NeedsLast f x p))
-    sets = read_due f cells tests due kept are p (get_or due p []) within (get_or_default due p [] (get_or due p []) small)
-
--- what is kept beside a value is kept beside what a clause calls it
-pub own_now : {f g : Framed} {due : List (List (List ℕ))} {lists : List (List Part)} → f ≡ g → ArePartLists f.matroid f.basis due lists → ArePartLists g.matroid g.basis due lists
-own_now {due = due} {lists = lists} same own = subst (λ (h : Framed). ArePartLists h.matroid h.basis due lists) same own
+    sets : IsStrictlySortedBy list_cmp (get_or all.due p []) × ((x : List ℕ) → Contains (get_or all.due p []) x ↔ (IsSetOf f.matroid.elements f.matroid.rank x × NeedsLast f x p))
+    sets = read_due f cells tests all.due kept all.are p (get_or all.due p []) within (get_or_default all.due p [] (get_or all.due p []) small)
 
 -- the set of the part at a place
 pub set_here : (parts : List Part) (k : ℕ) (part : Part) → k < length parts → part ≡ get_or parts k part → part.set ≡ get_or (sets_of parts) k []

@@ -1,4 +1,4 @@
--- What a frame keeps beside its value.
+-- The value of a frame's fields.
 use Rattle.std.specs.Prelude.{ℕ, List}
 use Rattle.mr_field.specs.Gf.{Gf}
 use Rattle.mr_set.specs.Matroid.{Presentation}

@@ -1,4 +1,4 @@
--- What a frame keeps of each set for its test, and the first sets that fail.
+-- The first set that is due at a position and fails.
 use Rattle.std.specs.Prelude.{ℕ, List}
 use Rattle.mr_set.specs.Subsets.{IsBefore}
 use Rattle.mr_frame.specs.Frame.{Framed}

@@ -9,7 +9,7 @@ ghost use Rattle.mr_linear.specs.Stored.{cell, InField};
 ghost use Rattle.mr_linear.specs.declared.elimination.TheConstants.{STRIDE};
 ghost use Rattle.mr_graph.specs.Order.{IsForestOrder};
 ghost use Rattle.mr_frame.specs.Frame.{IsExchange, IsFrame};
-ghost use Rattle.mr_frame.specs.Test.{IsCell, IsAssignmentOf, IsFull, IsFilledBy, Needs, NeedsLast, IsDecided, SetFails, IsVerdict, IsFirstFailing};
+ghost use Rattle.mr_frame.specs.Test.{IsCell, IsAssignmentOf, IsFull, IsFilledBy, Needs, IsDecided, SetFails, IsVerdict, IsFirstFailing};
 ghost use Rattle.mr_frame.specs.Private.Filling.{AreRows, HasValue, HasEntry, IsFilledTo, IsCopiedTo};
 ghost use Rattle.mr_frame.specs.Parts.{NoneFailsLast, IsFirstFailingLast};
 ghost use Rattle.mr_frame.specs.Private.Parts.{IsPartOfSet};
@@ -26,7 +26,7 @@ use crate::{Cell, Verdict};
 use mr_assign::{Assign, POSITIONS};
 use mr_field::Field;
 use mr_graph::{Edge, EdgeList};
-use mr_linear::{CELLS, Matrix, STRIDE, dependent_values, independent_part, part_values};
+use mr_linear::{CELLS, Matrix, STRIDE, independent_part, part_values};
 use mr_matroid::Matroid;
 use mr_set::{ELEMENTS, Set, elements, first_subset, next_subset};
 use std::alloc::{AllocError, Global};
@@ -44,21 +44,19 @@ pub struct Frame {
     // Row i stands at `ELEMENTS` times i.
     cells: Vec<Cell>,
     tests: Vec<SetList>,
-    due: Vec<SetList>,
     parts: Vec<PartList>,
 }
 
 impl Model for Frame {
     ghost use Rattle.mr_frame.specs.Frame.{Framed};
     ghost use Rattle.mr_frame.specs.Kept.{framed};
-    ghost use Rattle.mr_frame.specs.Private.Kept.{IsKept, AreDue};
-    ghost use Rattle.mr_frame.specs.Private.Parts.{ArePartLists};
+    ghost use Rattle.mr_frame.specs.Private.Kept.{IsKept, AreDueParts};
 
     ghost Value = { Framed };
 
     ghost view = { λ f. framed f.matroid f.field f.basis f.forest f.places };
 
-    ghost invariant = { λ f. IsKept (framed f.matroid f.field f.basis f.forest f.places) f.cells.items f.tests.items × AreDue (framed f.matroid f.field f.basis f.forest f.places) f.tests.items f.due.items × ArePartLists f.matroid f.basis f.due.items f.parts.items };
+    ghost invariant = { λ f. IsKept (framed f.matroid f.field f.basis f.forest f.places) f.cells.items f.tests.items × AreDueParts (framed f.matroid f.field f.basis f.forest f.places) f.tests.items f.parts.items };
 }
 
 impl Frame {
@@ -87,7 +85,6 @@ impl Frame {
             places,
             cells,
             tests,
-            due,
             parts,
         })
     }
@@ -173,7 +170,7 @@ impl Frame {
         self.cells[(row * ELEMENTS + element) as usize]
     }
 
-    /// The test of a set of the rank's size under an assignment. Entries outside of the set's part aren't read.
+    /// The test of a set of the rank's size under an assignment.
     pub fn test(&self, x: Set, a: &Assign) -> Verdict
         requires set { IsSetOf self.now.matroid.elements self.now.matroid.rank x }
         requires assignment { IsAssignmentOf self.now a.now }
@@ -196,34 +193,16 @@ impl Frame {
         verdict_of(self.matroid.is_basis(x), independent)
     }
 
-    /// The values of a free position for which a set fails, once the others in its part have values. One
-    /// elimination tells them all.
-    pub fn failing_values(&self, x: Set, p: u32, a: &Assign) -> Set
+    /// Whether a set of the rank's size fails under an assignment.
+    pub fn fails(&self, x: Set, a: &Assign) -> bool
         requires set { IsSetOf self.now.matroid.elements self.now.matroid.rank x }
         requires assignment { IsAssignmentOf self.now a.now }
-        requires position { Needs self.now x p }
-        requires others { (q : ℕ) → Needs self.now x q → q ≢ p → slice_index a.now q ≢ 0 }
-        ensures { (v : ℕ) → Contains result v ↔ SetFails self.now (slice_set a.now p v) x }
+        ensures { MatchBool result (SetFails self.now a.now x) (¬ (SetFails self.now a.now x)) }
     {
-        // The clauses of `words` say how many positions there are.
-        let _positions = a.words();
-        let rows = self.rows_outside(x);
-        let columns = x.minus(self.basis);
-        let mut part = self.part(rows, columns, a);
-        let place = self.place(p);
-        let members = elements(self.basis);
-        let dependent = dependent_values(
-            &self.field,
-            &mut part,
-            self.matroid.rank(),
-            self.matroid.elements(),
-            rows,
-            columns,
-            place.row,
-            place.col,
-            members[place.row as usize],
-        );
-        values_where(&self.field, self.matroid.is_basis(x), dependent)
+        match self.test(x, a) {
+            Verdict::Fails => true,
+            Verdict::Holds | Verdict::Unknown => false,
+        }
     }
 
     /// For each value of a free position the first set that fails with it, among those whose part has the position as its
@@ -261,15 +240,6 @@ impl Frame {
         ensures exactly { (x : List ℕ) → Contains result.now x ↔ (IsSetOf self.now.matroid.elements self.now.matroid.rank x × Needs self.now x p) }
     {
         self.tests[p as usize].as_slice()
-    }
-
-    /// The sets whose part has this as its last free position, in order.
-    pub fn due_at(&self, p: u32) -> &[Set]
-        requires { p < length self.now.places }
-        ensures sorted { IsStrictlySortedBy list_cmp result.now }
-        ensures exactly { (x : List ℕ) → Contains result.now x ↔ (IsSetOf self.now.matroid.elements self.now.matroid.rank x × NeedsLast self.now x p) }
-    {
-        self.due[p as usize].as_slice()
     }
 
     /// The first set that fails under an assignment.
@@ -499,18 +469,6 @@ impl Frame {
             return;
         }
         w[row as usize * STRIDE + e as usize] = self.value(row, e, a);
-    }
-
-    // Whether a set fails.
-    fn fails(&self, x: Set, a: &Assign) -> bool
-        requires set { IsSetOf self.now.matroid.elements self.now.matroid.rank x }
-        requires assignment { IsAssignmentOf self.now a.now }
-        ensures { MatchBool result (SetFails self.now a.now x) (¬ (SetFails self.now a.now x)) }
-    {
-        match self.test(x, a) {
-            Verdict::Fails => true,
-            Verdict::Holds | Verdict::Unknown => false,
-        }
     }
 }
 

@@ -31,7 +31,7 @@ pub struct Found {
     pub last: Cite,
 }
 
-/// The log that the bytes are. Memory is taken by the lines that were read, and never by the announced number of steps.
+/// The log that the bytes are, or why they are none.
 pub fn read_log(alloc: Global, bytes: &[u8], field: Field) -> Result<Log, LogFault>
     requires { length bytes.now + 1 < 2 ^ 32 }
 

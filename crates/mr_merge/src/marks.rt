@@ -8,11 +8,10 @@ ghost use Rattle.mr_merge.specs.Private.Table.{CiteSmaller};
 ghost use Rattle.mr_merge.specs.Private.Order.{AreInOrder};
 ghost use Rattle.mr_merge.specs.Private.Marks.{with_marked, marked_slots, MarksCited, MarksFrom, AreKept};
 
-use crate::cite::cite_at;
 use crate::order::slots_in_order;
 use crate::table::Table;
 use mr_assign::VALUES;
-use mr_nogood::{Cite, Row};
+use mr_nogood::{Cite, Row, cite_at};
 use std::alloc::{AllocError, Global};
 
 /// The slots that the one of the end leads to, by rank and then slot.

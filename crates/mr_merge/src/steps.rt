@@ -8,10 +8,9 @@ ghost use Rattle.mr_merge.specs.Table.{all_rows};
 ghost use Rattle.mr_merge.specs.Steps.{renamed, renumbered};
 ghost use Rattle.mr_merge.specs.Private.Marks.{AreNumbers, AreRenumbered};
 
-use crate::cite::cite_at;
 use crate::table::Table;
 use mr_assign::VALUES;
-use mr_nogood::{Cite, ROW_CITES, Row, RowList};
+use mr_nogood::{Cite, ROW_CITES, Row, RowList, cite_at};
 use std::alloc::{AllocError, Global};
 
 /// For each slot of the list its place there, among `count` slots.

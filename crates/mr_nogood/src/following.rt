@@ -7,7 +7,7 @@ ghost use Rattle.mr_nogood.specs.Private.Checking.{cited_row, IsOpen, HoldsBy, A
 use crate::row::cite_at;
 use crate::{Cite, Row};
 use mr_assign::{Assign, VALUES};
-use mr_frame::{Frame, Verdict};
+use mr_frame::Frame;
 use mr_set::{Set, is_set_of};
 
 /// Whether the row follows from those of the list, which its cites name by their places. A cite of a place
@@ -130,8 +130,5 @@ pub fn fails(frame: &Frame, x: Set, a: &Assign) -> bool
     if !is_set_of(m.elements(), m.rank(), x) {
         return false;
     }
-    match frame.test(x, a) {
-        Verdict::Fails => true,
-        Verdict::Holds | Verdict::Unknown => false,
-    }
+    frame.fails(x, a)
 }

@@ -13,7 +13,7 @@ pub use following::{fails, follows, follows_steps};
 pub use list::RowList;
 use mr_assign::VALUES;
 pub use packing::{head_of, pack, row_of, unpack};
-pub use row::{Cite, Row};
+pub use row::{Cite, Row, cite_at};
 
 /// The cites of a row, one for each value.
 pub const ROW_CITES: usize = VALUES as usize;

@@ -6,7 +6,7 @@ use crate::ROW_CITES;
 use mr_assign::Assign;
 use mr_set::Set;
 
-/// Why no value of a row's position is left: a set that fails, or a row by its number.
+/// Why one value of a row's position is excluded: a set that fails, or a row by its number; `Nothing` gives no reason.
 #[derive(Clone, Copy, Debug, PartialEq, Eq)]
 pub enum Cite {
     Nothing,
@@ -24,8 +24,8 @@ pub struct Row {
     pub cites: [Cite; ROW_CITES],
 }
 
-/// The cite for the value k + 1.
-pub(crate) fn cite_at(row: &Row, k: u8) -> &Cite
+/// The cite for the value k + 1, which must be one of a field.
+pub fn cite_at(row: &Row, k: u8) -> &Cite
     requires { k < VALUES }
     ensures cite { result.now ≡ cite_for row.now k }
     ensures count { length row.now.cites ≡ VALUES }

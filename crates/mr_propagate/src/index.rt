@@ -101,13 +101,9 @@ impl Index {
         ensures none { IsNone result ↔ NothingInside (in_slots self.now) node.now }
         ensures some { IfSome result (IsLeastInside (in_slots self.now) node.now) }
     {
-        // The clauses are maps.
-        let _rows = &self.rows;
-        let mut found = self.found_at(0, node);
-        for p in 0..POSITIONS {
-            found = self.found_through(p, node, found);
-        }
-        found
+        // The clauses of `words` say that it is a map.
+        let _words = node.words();
+        self.inside_below(node, POSITIONS)
     }
 
     /// The same for a node without values from a position on.

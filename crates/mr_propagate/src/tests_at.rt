@@ -1,11 +1,10 @@
-ghost use Rattle.std.specs.Prelude.{◌≡◌, ◌<◌, ℕ, MatchOption, MatchBool, Contains, Some, None, length, slice_index, slice_index_or, slice_set};
-ghost use Rattle.mr_set.specs.Subsets.{IsSetOf};
-ghost use Rattle.mr_frame.specs.Test.{IsAssignmentOf, SetFails};
+ghost use Rattle.std.specs.Prelude.{◌<◌, ℕ, MatchOption, None, length, slice_index, slice_index_or, slice_set};
+ghost use Rattle.mr_frame.specs.Test.{IsAssignmentOf};
 ghost use Rattle.mr_field.specs.Gf.{order};
 ghost use Rattle.mr_propagate.specs.Index.{NoneFailsAt, IsFirstFailingAt, IsFilledBelow};
 
 use mr_assign::Assign;
-use mr_frame::{Frame, Verdict, WIDTH};
+use mr_frame::{Frame, WIDTH};
 use mr_set::Set;
 
 /// The first set that needs a position and fails.
@@ -15,7 +14,7 @@ pub(crate) fn first_failing_at(frame: &Frame, a: &Assign, p: u32) -> Option<Set>
     ensures { MatchOption result (NoneFailsAt frame.now a.now p) (IsFirstFailingAt frame.now a.now p) }
 {
     for x in frame.tests_at(p) {
-        if fails(frame, *x, a) {
+        if frame.fails(*x, a) {
             return Some(*x);
         }
     }
@@ -31,16 +30,4 @@ pub fn first_failing_values(frame: &Frame, node: &Assign, p: u32) -> [Option<Set
     ensures { (v : ℕ) → v < order frame.now.field → MatchOption (slice_index_or result v None) (NoneFailsAt frame.now (slice_set node.now p v) p) (IsFirstFailingAt frame.now (slice_set node.now p v) p) }
 {
     frame.first_failing_values(p, node)
-}
-
-// Whether a set fails.
-fn fails(frame: &Frame, x: Set, a: &Assign) -> bool
-    requires set { IsSetOf frame.now.matroid.elements frame.now.matroid.rank x }
-    requires assignment { IsAssignmentOf frame.now a.now }
-    ensures { MatchBool result (SetFails frame.now a.now x) (¬ (SetFails frame.now a.now x)) }
-{
-    match frame.test(x, a) {
-        Verdict::Fails => true,
-        Verdict::Holds | Verdict::Unknown => false,
-    }
 }

@@ -6,8 +6,10 @@ use Rattle.mr_graph.specs.declared.edge.Edge.{Edge}
 use Rattle.mr_frame.specs.Frame.{Framed, IsFrame}
 use Rattle.mr_frame.specs.Test.{IsCell}
 use Rattle.mr_frame.specs.Private.Building.{AreSets, HasAndNot, AreLast}
+use Rattle.mr_frame.specs.Private.Parts.{ArePartLists}
 use Rattle.mr_frame.specs.declared.cell.Cell.{Cell}
 use Rattle.mr_frame.specs.declared.cell.Cell.TheVariants.{Zero}
+use Rattle.mr_frame.specs.declared.part.Part.{Part}
 
 -- the cells of each row, and for each free position the sets that need it
 pub record IsKept (f : Framed) (cells : List Cell) (tests : List (List (List ℕ))) : Type 0 where
@@ -22,3 +24,9 @@ pub record IsKept (f : Framed) (cells : List Cell) (tests : List (List (List ℕ
 pub record AreDue (f : Framed) (tests due : List (List (List ℕ))) : Type 0 where
   pub count : length due ≡ length tests
   pub are : (p : ℕ) → p < length tests → AreLast f.places f.basis p (slice_index_or tests p []) (slice_index_or due p [])
+
+-- and for each of those what its test needs
+pub record AreDueParts (f : Framed) (tests : List (List (List ℕ))) (parts : List (List Part)) : Type 0 where
+  pub due : List (List (List ℕ))
+  pub are : AreDue f tests due
+  pub kept : ArePartLists f.matroid f.basis due parts

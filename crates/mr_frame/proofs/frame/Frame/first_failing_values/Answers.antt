@@ -12,7 +12,7 @@ use Rattle.mr_frame.specs.declared.part.Part.{Part}
 use Rattle.mr_frame.proofs.Outside.{HasEdge-slice_get}
 use Rattle.mr_frame.proofs.Uniqueness.{place_exchange}
 use Rattle.mr_frame.proofs.Keeping.{kept_now, due_now}
-use Rattle.mr_frame.proofs.Owning.{AreOfFrame, sets_of, parts_of_frame, own_now, due_part, set_here}
+use Rattle.mr_frame.proofs.Owning.{AreOfFrame, sets_of, parts_of_frame, due_part, set_here}
 use Rattle.mr_frame.proofs.Firsts.{no_set, firsts-none, firsts-more, firsts-all, firsts-early, open-all, open-less, others_filled}
 use Rattle.mr_frame.proofs.frame.Frame.first_failing_values.Goals as goal
 
@@ -34,50 +34,45 @@ pub failing_part-failing-requires-clause-part : goal.failing_part-failing-requir
 failing_part-failing-requires-clause-part c =
     let kept = kept_now c.self.view_is c.self.invariant.0 in
     let due = due_now c.self.view_is c.self.invariant.1 in
-    let lists = own_now c.self.view_is c.self.invariant.2 in
     let parts : List Part = c.as_slice-part-items.result.now in
     let own : AreOfFrame c.args.self.now c.args.p parts = subst (AreOfFrame c.args.self.now c.args.p) (sym c.as_slice-part-items.ensures)
-    (parts_of_frame c.args.self.now c.self.inside.cells.items c.self.inside.tests.items c.self.inside.due.items c.self.inside.parts.items kept due lists c.args.p c.index.result.now c.requires.position c.index.ensures) in
+    (parts_of_frame c.args.self.now c.self.inside.cells.items c.self.inside.tests.items c.self.inside.parts.items kept due c.args.p c.index.result.now c.requires.position c.index.ensures) in
     own.each c.loop-part.part-index c.part-item.result (slice_get_read parts (length parts) c.loop-part.part-index c.part-item.result refl c.loop-part-test.true c.part-item.is)
 
 pub failing_part-failing-requires-clause-set : goal.failing_part-failing-requires-clause-set
 failing_part-failing-requires-clause-set c =
     let kept = kept_now c.self.view_is c.self.invariant.0 in
     let due = due_now c.self.view_is c.self.invariant.1 in
-    let lists = own_now c.self.view_is c.self.invariant.2 in
     let parts : List Part = c.as_slice-part-items.result.now in
     let own : AreOfFrame c.args.self.now c.args.p parts = subst (AreOfFrame c.args.self.now c.args.p) (sym c.as_slice-part-items.ensures)
-    (parts_of_frame c.args.self.now c.self.inside.cells.items c.self.inside.tests.items c.self.inside.due.items c.self.inside.parts.items kept due lists c.args.p c.index.result.now c.requires.position c.index.ensures) in
+    (parts_of_frame c.args.self.now c.self.inside.cells.items c.self.inside.tests.items c.self.inside.parts.items kept due c.args.p c.index.result.now c.requires.position c.index.ensures) in
     (due_part c.args.self.now c.args.p parts own c.loop-part.part-index c.part-item.result c.loop-part-test.true c.part-item.is).0
 
 pub failing_part-failing-requires-clause-position : goal.failing_part-failing-requires-clause-position
 failing_part-failing-requires-clause-position c =
     let kept = kept_now c.self.view_is c.self.invariant.0 in
     let due = due_now c.self.view_is c.self.invariant.1 in
-    let lists = own_now c.self.view_is c.self.invariant.2 in
     let parts : List Part = c.as_slice-part-items.result.now in
     let own : AreOfFrame c.args.self.now c.args.p parts = subst (AreOfFrame c.args.self.now c.args.p) (sym c.as_slice-part-items.ensures)
-    (parts_of_frame c.args.self.now c.self.inside.cells.items c.self.inside.tests.items c.self.inside.due.items c.self.inside.parts.items kept due lists c.args.p c.index.result.now c.requires.position c.index.ensures) in
+    (parts_of_frame c.args.self.now c.self.inside.cells.items c.self.inside.tests.items c.self.inside.parts.items kept due c.args.p c.index.result.now c.requires.position c.index.ensures) in
     (due_part c.args.self.now c.args.p parts own c.loop-part.part-index c.part-item.result c.loop-part-test.true c.part-item.is).1.needs
 
 pub failing_part-failing-requires-clause-others : goal.failing_part-failing-requires-clause-others
 failing_part-failing-requires-clause-others c =
     let kept = kept_now c.self.view_is c.self.invariant.0 in
     let due = due_now c.self.view_is c.self.invariant.1 in
-    let lists = own_now c.self.view_is c.self.invariant.2 in
     let parts : List Part = c.as_slice-part-items.result.now in
     let own : AreOfFrame c.args.self.now c.args.p parts = subst (AreOfFrame c.args.self.now c.args.p) (sym c.as_slice-part-items.ensures)
-    (parts_of_frame c.args.self.now c.self.inside.cells.items c.self.inside.tests.items c.self.inside.due.items c.self.inside.parts.items kept due lists c.args.p c.index.result.now c.requires.position c.index.ensures) in
+    (parts_of_frame c.args.self.now c.self.inside.cells.items c.self.inside.tests.items c.self.inside.parts.items kept due c.args.p c.index.result.now c.requires.position c.index.ensures) in
     others_filled c.args.self.now c.args.a.now c.args.p c.requires.earlier c.part-item.result.set (due_part c.args.self.now c.args.p parts own c.loop-part.part-index c.part-item.result c.loop-part-test.true c.part-item.is).1
 
 pub loop-part-preserved : goal.loop-part-preserved
 loop-part-preserved c =
     let kept = kept_now c.self.view_is c.self.invariant.0 in
     let due = due_now c.self.view_is c.self.invariant.1 in
-    let lists = own_now c.self.view_is c.self.invariant.2 in
     let parts : List Part = c.as_slice-part-items.result.now in
     let own : AreOfFrame c.args.self.now c.args.p parts = subst (AreOfFrame c.args.self.now c.args.p) (sym c.as_slice-part-items.ensures)
-    (parts_of_frame c.args.self.now c.self.inside.cells.items c.self.inside.tests.items c.self.inside.due.items c.self.inside.parts.items kept due lists c.args.p c.index.result.now c.requires.position c.index.ensures) in
+    (parts_of_frame c.args.self.now c.self.inside.cells.items c.self.inside.tests.items c.self.inside.parts.items kept due c.args.p c.index.result.now c.requires.position c.index.ensures) in
     let size = length-map parts (λ (q : Part). q.set) in (
       firsts-more c.args.self.now c.args.a.now c.args.p (sets_of parts) own.sorted own.exactly
           c.loop-part.first c.mark.new.first c.failing_part-failing.result c.part-item.result.set c.loop-part.part-index c.loop-part.invariant.0 (let lt = c.loop-part-test.true in omega arith)
@@ -90,10 +85,9 @@ pub returns : goal.returns
 returns c =
     let kept = kept_now c.self.view_is c.self.invariant.0 in
     let due = due_now c.self.view_is c.self.invariant.1 in
-    let lists = own_now c.self.view_is c.self.invariant.2 in
     let parts : List Part = c.as_slice-part-items.result.now in
     let own : AreOfFrame c.args.self.now c.args.p parts = subst (AreOfFrame c.args.self.now c.args.p) (sym c.as_slice-part-items.ensures)
-    (parts_of_frame c.args.self.now c.self.inside.cells.items c.self.inside.tests.items c.self.inside.due.items c.self.inside.parts.items kept due lists c.args.p c.index.result.now c.requires.position c.index.ensures) in
+    (parts_of_frame c.args.self.now c.self.inside.cells.items c.self.inside.tests.items c.self.inside.parts.items kept due c.args.p c.index.result.now c.requires.position c.index.ensures) in
     let size = length-map parts (λ (q : Part). q.set) in
     firsts-all c.args.self.now c.args.a.now c.args.p (sets_of parts) own.sorted own.exactly c.loop-part.first c.loop-part.part-index (let end = c.loop-part-test.false in omega arith) c.loop-part.invariant.0
 

@@ -14,7 +14,7 @@ use Rattle.mr_frame.specs.declared.cell.Cell.TheVariants.{Zero}
 use Rattle.mr_set.specs.Elements.{IsSet}
 use Rattle.mr_frame.specs.Private.Parts.{ArePartLists}
 use Rattle.mr_frame.proofs.Parting.{due_are_sets}
-use Rattle.mr_frame.proofs.Made.{made, places_inside}
+use Rattle.mr_frame.proofs.Made.{frame_made, made, places_inside}
 use Rattle.mr_frame.proofs.frame.Frame.new.Goals as goal
 
 pub tests_of-requires-clause-places : goal.tests_of-requires-clause-places
@@ -57,12 +57,18 @@ parts_of-requires-clause-sets c =
     (λ p x is. c.in_ok-tests.ensures.tests p x (ap (λ (places : List Edge). slice_get places p) c.as_slice-3.ensures ∙ is))
     (c.in_ok-tests.ensures.size ∙ ap length c.as_slice-3.ensures) (c.in_ok-due.ensures.count ∙ ap length c.deref.ensures.value) are)
 
+pub returns-clause-frame : goal.returns-clause-frame
+returns-clause-frame c = frame_made c.args.m c.args.f c.first_basis-basis.result c.fundamental_graph-graph.result c.in_ok-forest.forest c.in_ok-places.places
+    c.elements-limits.ensures.matroid c.elements-limits.ensures.limits c.first_basis-basis.ensures c.fundamental_graph-graph.ensures c.in_ok-forest.ensures.first c.in_ok-places.ensures.none
+    (subst (λ (forest : List Edge). c.args.f ≢ gf2 → AreEdges (IsOutside c.args.m c.first_basis-basis.result forest) c.in_ok-places.places) c.as_slice.ensures c.in_ok-places.ensures.places)
+
 pub invariant_of-result : goal.invariant_of-result
 invariant_of-result c = (
   made c.args.m c.args.f c.first_basis-basis.result c.fundamental_graph-graph.result c.in_ok-forest.forest c.in_ok-places.places c.in_ok-cells.cells.items c.in_ok-tests.tests.items
+      (frame_made c.args.m c.args.f c.first_basis-basis.result c.fundamental_graph-graph.result c.in_ok-forest.forest c.in_ok-places.places
       c.elements-limits.ensures.matroid c.elements-limits.ensures.limits c.first_basis-basis.ensures c.fundamental_graph-graph.ensures c.in_ok-forest.ensures.first c.in_ok-places.ensures.none
-      (subst (λ (forest : List Edge). c.args.f ≢ gf2 → AreEdges (IsOutside c.args.m c.first_basis-basis.result forest) c.in_ok-places.places) c.as_slice.ensures c.in_ok-places.ensures.places)
-      c.in_ok-places.ensures.few
+      (subst (λ (forest : List Edge). c.args.f ≢ gf2 → AreEdges (IsOutside c.args.m c.first_basis-basis.result forest) c.in_ok-places.places) c.as_slice.ensures c.in_ok-places.ensures.places))
+      c.fundamental_graph-graph.ensures c.in_ok-places.ensures.few
       (c.in_ok-cells.ensures.size ∙ ap (λ (r : ℕ). r * ELEMENTS) c.rank.ensures)
       (λ i e row col. let rank = c.rank.ensures in
       subst (λ (places : List Edge). IsCellOf (IsEdge c.fundamental_graph-graph.result) places i e (get_or c.in_ok-cells.cells.items (i * ELEMENTS + e) Zero)) c.as_slice-2.ensures
@@ -71,10 +77,10 @@ invariant_of-result c = (
       (λ p x is. c.in_ok-tests.ensures.tests p x (ap (λ (places : List Edge). slice_get places p) c.as_slice-3.ensures ∙ is)),
   (
       let are = rw (c.as_slice-5.ensures, c.as_slice-4.ensures.value, c.elements-members.ensures, c.deref.ensures.value) at c.in_ok-due.ensures.are in
-      record { count = c.in_ok-due.ensures.count ∙ ap length c.deref.ensures.value; are = are }
+      record {
+        due = c.in_ok-due.due.items;
+        are = record { count = c.in_ok-due.ensures.count ∙ ap length c.deref.ensures.value; are = are };
+        kept = subst (λ (due : List (List (List ℕ))). ArePartLists c.args.m c.first_basis-basis.result due c.in_ok-parts.parts.items) c.deref-2.ensures.value c.in_ok-parts.ensures;
+      }
       ),
-  subst (λ (due : List (List (List ℕ))). ArePartLists c.args.m c.first_basis-basis.result due c.in_ok-parts.parts.items) c.deref-2.ensures.value c.in_ok-parts.ensures,
 )
-
-pub returns-clause-frame : goal.returns-clause-frame
-returns-clause-frame c = (invariant_of-result c).0.frame
