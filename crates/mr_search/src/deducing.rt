@@ -32,6 +32,8 @@ pub(crate) fn deduced(
     ensures follows { Follows frame.now (in_slots index.now) result }
     ensures rank { HasLeastRank (in_slots index.now) result }
     ensures inside { IsPartOf result.clause node.now }
+    // The cites rest on each pair of the clause.
+    ensures only { (q : ℕ) → slice_index result.clause q ≢ 0 → IsUsed frame.now (in_slots index.now) cites q }
 {
     // The clauses of `free`, `basis` and `words` say that there are few positions, that it is a frame, and
     // that it is a map.
@@ -59,6 +61,7 @@ fn clause_of(
     requires position { p < length frame.now.places }
     ensures inside { IsPartOf result node.now }
     ensures used { (q : ℕ) → q < p → IsUsed frame.now (in_slots index.now) cites.now q → slice_index result q ≡ slice_index node.now q }
+    ensures only { (q : ℕ) → slice_index result q ≢ 0 → IsUsed frame.now (in_slots index.now) cites.now q }
 {
     // The clauses of `free` and of `words` say how many positions there are.
     let _free = frame.free();
