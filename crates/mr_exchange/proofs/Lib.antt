@@ -24,4 +24,5 @@ pub mod Changing
 pub mod Scanning
 pub mod Allowing
 pub mod OneByOne
+pub mod RowWords
 pub mod WordRows

@@ -1,50 +1,19 @@
--- Rows kept as packed words.
-use Rattle.std.proofs.Common.{◌≡◌, ◌≢◌, ℕ, zero, suc, ◌+◌, ◌*◌, ◌-◌, ◌<◌, ◌≤◌, min, if◌then◌else◌, List, length, set, get_or, drop, replicate, slice_index, Option, Some, None, refl, sym, ap, ◌∙◌, subst, arith, inl, inr, length-drop, length-set, get_or-set_same, get_or-set_other}
+-- The rows of slots, kept as packed words.
+use Rattle.std.proofs.Common.{◌≡◌, ◌≢◌, ℕ, ◌+◌, ◌*◌, ◌<◌, ◌≤◌, List, length, set, get_or, replicate, slice_index, Option, Some, None, refl, sym, ap, ◌∙◌, subst, arith, inl, inr, length-set, get_or-set_same, get_or-set_other}
 use Rattle.std.proofs.lemmas.Bool.{cases_eq}
 use Rattle.std.proofs.lemmas.Option.{none-some, same_Some}
 use Rattle.std.proofs.lemmas.List.FromFn.{length-map-range_with_len, get_or-map-range_with_len}
-use Rattle.std.proofs.lemmas.List.{ext_get_or, get_or-take, get_or-drop, get_or-replicate, length-take, length-replicate}
+use Rattle.std.proofs.lemmas.List.{ext_get_or, get_or-replicate, length-replicate}
 use Rattle.mr_nogood.specs.declared.TheConstants.{ROW_WORDS}
 use Rattle.mr_nogood.specs.declared.row.Row.{Row}
 use Rattle.mr_nogood.specs.Row.{IsRow}
 use Rattle.mr_nogood.specs.Follows.{in_slots}
 use Rattle.mr_nogood.specs.Packing.{row_packing}
 use Rattle.mr_nogood.specs.Unpacking.{unpacked}
-use Rattle.mr_nogood.proofs.Words.{unpacked-packed}
-use Rattle.mr_exchange.specs.Private.Packed.{words_of, row_read, rows_read, ArePacked}
-use Rattle.mr_exchange.proofs.Totals.{eq_cases}
+use Rattle.mr_exchange.specs.Words.{row_read}
+use Rattle.mr_exchange.specs.Private.Packed.{words_of, rows_read, ArePacked}
+use Rattle.mr_exchange.proofs.RowWords.{zero_at, read_none, read_some, packing_read, word_of}
 use Rattle.mr_exchange.proofs.Holding.{in_slots_read, in_slots_within}
-
--- words that begin with 0 have no row
-pub read_none : (words : List ℕ) → slice_index words 0 ≡ 0 → row_read words ≡ None
-read_none words e = eq_cases (slice_index words 0) 0 (λ b. (if b then None else Some (unpacked words)) ≡ None) (λ _. refl) (λ n. absurd (n e))
-
--- others have the one that is read from them
-pub read_some : (words : List ℕ) → slice_index words 0 ≢ 0 → row_read words ≡ Some (unpacked words)
-read_some words n = eq_cases (slice_index words 0) 0 (λ b. (if b then None else Some (unpacked words)) ≡ Some (unpacked words)) (λ e. absurd (n e)) (λ _. refl)
-
--- a word of a slot
-slot_word : (words : List ℕ) (slot j : ℕ) → j < ROW_WORDS → get_or (words_of words slot) j 0 ≡ get_or words (ROW_WORDS * slot + j) 0
-slot_word words slot j lt = get_or-take ROW_WORDS (drop (ROW_WORDS * slot) words) j 0 lt ∙ get_or-drop (ROW_WORDS * slot) words j 0
-
--- how many there are
-length-words_of : (words : List ℕ) (slot : ℕ) → length (words_of words slot) ≡ min ROW_WORDS (length words - ROW_WORDS * slot)
-length-words_of words slot = length-take ROW_WORDS (drop (ROW_WORDS * slot) words) ∙ ap (λ n. min ROW_WORDS n) (length-drop (ROW_WORDS * slot) words)
-
--- words that are those of a slot, one by one
-pub words-same : (words row : List ℕ) (slot : ℕ) → length row ≡ ROW_WORDS → ROW_WORDS * slot + ROW_WORDS ≤ length words → ((j : ℕ) → j < ROW_WORDS → get_or row j 0 ≡ get_or words (ROW_WORDS * slot + j) 0) → row ≡ words_of words slot
-words-same words row slot size room same =
-    let long = length-words_of words slot in
-    ext_get_or 0 row (words_of words slot) (let n : length row ≡ length (words_of words slot) = omega arith in n)
-    (λ j lt. let low : j < ROW_WORDS = omega arith in same j low ∙ sym (slot_word words slot j low))
-
--- a slot none of whose words changed has the same
-pub others-same : (old new : List ℕ) (slot : ℕ) → length new ≡ length old → ((j : ℕ) → j < ROW_WORDS → get_or new (ROW_WORDS * slot + j) 0 ≡ get_or old (ROW_WORDS * slot + j) 0) → words_of new slot ≡ words_of old slot
-others-same old new slot size same =
-    let a = length-words_of new slot in
-    let b = length-words_of old slot in
-    ext_get_or 0 (words_of new slot) (words_of old slot) (let n : length (words_of new slot) ≡ length (words_of old slot) = omega arith in n)
-    (λ j lt. let low : j < ROW_WORDS = omega arith in slot_word new slot j low ∙ same j low ∙ sym (slot_word old slot j low))
 
 -- a number counted from 0
 from_zero : (k : ℕ) → 0 + k ≡ k
@@ -69,15 +38,9 @@ in_rows-past words slots slot past = read (in_slots (rows_read words slots) slot
         omega arith
         )
 
--- each of zeros is one
-zero_at : (n i : ℕ) → get_or (replicate {A = ℕ} n 0) i 0 ≡ 0
-zero_at zero i = refl
-zero_at (suc n) zero = refl
-zero_at (suc n) (suc i) = zero_at n i
-
--- nor has a slot of zeros
+-- a slot of zeros has no row
 zero_slot : (n slot : ℕ) → row_read (words_of (replicate n 0) slot) ≡ None
-zero_slot n slot = read_none (words_of (replicate n 0) slot) (slot_word (replicate n 0) slot 0 (omega arith) ∙ zero_at n (ROW_WORDS * slot + 0))
+zero_slot n slot = read_none (words_of (replicate n 0) slot) (word_of (replicate n 0) (ROW_WORDS * slot) 0 (omega arith) ∙ zero_at n (ROW_WORDS * slot + 0))
 
 -- zeros have no rows
 pub zeros_read : (n slots : ℕ) → rows_read (replicate n 0) slots ≡ replicate slots None
@@ -93,12 +56,6 @@ zeros_packed words slots zeros size = record {
   size = size;
   packed = λ slot row lt e. absurd (none-some row (sym (zero_slot (length words) slot) ∙ ap (λ (ws : List ℕ). row_read (words_of ws slot)) (sym zeros) ∙ e));
 }
-
--- the words of a row have that row
-pub packing_read : (words : List ℕ) (row : Row) → IsRow row → words ≡ row_packing row → row_read words ≡ Some row
-packing_read words row good is =
-    read_some words (λ zero_head. (let head = sym (ap (λ (ws : List ℕ). slice_index ws 0) is) ∙ zero_head in omega arith))
-    ∙ ap (λ (r : Row). Some r) (ap unpacked is ∙ unpacked-packed row good)
 
 -- after a row was put in a slot
 pub put_rows : (old new : List ℕ) (slots slot : ℕ) (row : Row) → slot < slots → IsRow row → words_of new slot ≡ row_packing row → ((other : ℕ) → other ≢ slot → words_of new other ≡ words_of old other) → rows_read new slots ≡ set (rows_read old slots) slot (Some row)
@@ -128,10 +85,14 @@ put_packed old new slots slot row h size good here others = record {
   ];
 }
 
+-- the first word of a slot
+head_of : (words : List ℕ) (slot : ℕ) → slice_index (words_of words slot) 0 ≡ slice_index words (ROW_WORDS * slot)
+head_of words slot = word_of words (ROW_WORDS * slot) 0 (omega arith) ∙ ap (slice_index words) (let e : ROW_WORDS * slot + 0 ≡ ROW_WORDS * slot = omega arith in e)
+
 -- a slot with words that don't begin with 0 has the row that they are those of
-pub packed_row : (words : List ℕ) (slots slot : ℕ) → ArePacked words slots → slot < slots → slice_index (words_of words slot) 0 ≢ 0 → (row : Row) × IsRow row × (words_of words slot ≡ row_packing row)
+pub packed_row : (words : List ℕ) (slots slot : ℕ) → ArePacked words slots → slot < slots → slice_index words (ROW_WORDS * slot) ≢ 0 → (row : Row) × IsRow row × (words_of words slot ≡ row_packing row)
 packed_row words slots slot h lt some_head =
-    let there = h.packed slot (unpacked (words_of words slot)) lt (read_some (words_of words slot) some_head) in
+    let there = h.packed slot (unpacked (words_of words slot)) lt (read_some (words_of words slot) (λ e. some_head (sym (head_of words slot) ∙ e))) in
     (unpacked (words_of words slot), there.0, there.1)
 
 -- there is room for the words of each of the slots
@@ -150,9 +111,9 @@ module _ (words : List ℕ) (slots slot : ℕ) (rows : List (Option Row)) (is : 
   past_slots past = sym (in_rows-past words slots slot past) ∙ ap (λ (xs : List (Option Row)). in_slots xs slot) is
 
   -- its words begin with 0
-  pub no_row : (row : List ℕ) → slot < slots → row ≡ words_of words slot → slice_index row 0 ≡ 0 → None ≡ in_slots rows slot
-  no_row row lt same zero_head =
-      sym (in_rows words slots slot lt ∙ read_none (words_of words slot) (ap (λ (ws : List ℕ). slice_index ws 0) (sym same) ∙ zero_head))
+  pub no_row : slot < slots → slice_index words (ROW_WORDS * slot) ≡ 0 → None ≡ in_slots rows slot
+  no_row lt zero_head =
+      sym (in_rows words slots slot lt ∙ read_none (words_of words slot) (head_of words slot ∙ zero_head))
       ∙ ap (λ (xs : List (Option Row)). in_slots xs slot) is
 
   -- they don't

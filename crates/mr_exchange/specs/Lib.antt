@@ -8,6 +8,7 @@ pub mod Board
 pub mod Right
 pub mod Acting
 pub mod Closed
+pub mod Words
 pub mod Plain
 pub mod Laws
 pub mod Held

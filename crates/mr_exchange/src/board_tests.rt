@@ -179,21 +179,21 @@ fn moved<T: Send + Sync>(value: T) -> T {
     value
 }
 
-// Whether that is so once the closed board has crossed to another thread.
+// Whether that is so of a closed board, which may cross to another thread.
 fn is_closed_on(alloc: Global, frame: &Frame) -> Option<bool> {
     let closed = moved(played(alloc, frame)?);
     Some(is_closed(&closed))
 }
 
 // The same on the plane.
-fn is_closed_elsewhere(alloc: Global) -> Option<bool> {
+fn is_closed_on_the_plane(alloc: Global) -> Option<bool> {
     let fano = fano(alloc)?;
     is_closed_on(alloc, &fano)
 }
 
 #[test]
 fn a_plain_board_answers_as_its_pass_and_may_cross_threads_once_closed(rt: HostRuntime) {
-    assert!(rt; is_closed_elsewhere(rt.alloc()) == Some(true));
+    assert!(rt; is_closed_on_the_plane(rt.alloc()) == Some(true));
 }
 
 // What a board shows in which nothing happened, from its parts.
@@ -239,18 +239,26 @@ fn answers(alloc: Global) -> Option<AnswerList> {
     Some(answers)
 }
 
+// Whether the map with 1 at position 0 is the only one.
+fn is_the_one(found: &[Assign]) -> bool {
+    match found {
+        [only] => *only == Assign::empty().with(0, 1),
+        _ => false,
+    }
+}
+
 // Whether these are the two answers.
 fn are_two_answers(answers: &[CubeAnswer]) -> bool {
     match answers {
         [CubeAnswer::Found(found), CubeAnswer::Refuted(cite)] => {
-            found.as_slice().len() == 1 && *cite == Cite::Slot(3)
+            is_the_one(found.as_slice()) && *cite == Cite::Slot(3)
         }
         _ => false,
     }
 }
 
-// Whether they are, once they have crossed to another thread.
-fn are_answers_elsewhere(alloc: Global) -> Option<bool> {
+// Whether they are, and may cross to another thread.
+fn are_answers_that_may_cross(alloc: Global) -> Option<bool> {
     let answers = moved(answers(alloc)?);
     Some(are_two_answers(answers.as_slice()))
 }
@@ -271,14 +279,14 @@ fn are_two_slots(slots: &[Option<Row>]) -> bool {
     }
 }
 
-// Whether they are, once they have crossed to another thread.
-fn are_slots_elsewhere(alloc: Global) -> Option<bool> {
+// Whether they are, and may cross to another thread.
+fn are_slots_that_may_cross(alloc: Global) -> Option<bool> {
     let slots = moved(slots(alloc)?);
     Some(are_two_slots(slots.as_slice()))
 }
 
 #[test]
 fn lists_keep_their_order_and_may_cross_threads(rt: HostRuntime) {
-    assert!(rt; are_answers_elsewhere(rt.alloc()) == Some(true));
-    assert!(rt; are_slots_elsewhere(rt.alloc()) == Some(true));
+    assert!(rt; are_answers_that_may_cross(rt.alloc()) == Some(true));
+    assert!(rt; are_slots_that_may_cross(rt.alloc()) == Some(true));
 }

@@ -1,3 +1,5 @@
+ghost use Rattle.std.specs.Prelude.{◌≡◌};
+
 use std::alloc::AllocError;
 
 /// Why an event did not happen.
@@ -15,12 +17,20 @@ pub enum ReplayFault {
 }
 
 impl From<AllocError> for StepFault {
+    ghost use Rattle.mr_exchange.specs.declared.fault.StepFault.TheVariants.{Memory};
+
+    ghost from_gives = { λ _ fault. fault ≡ Memory };
+
     fn from(_: AllocError) -> StepFault {
         StepFault::Memory
     }
 }
 
 impl From<AllocError> for ReplayFault {
+    ghost use Rattle.mr_exchange.specs.declared.fault.ReplayFault.TheVariants.{Memory};
+
+    ghost from_gives = { λ _ fault. fault ≡ Memory };
+
     fn from(_: AllocError) -> ReplayFault {
         ReplayFault::Memory
     }

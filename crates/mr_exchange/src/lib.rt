@@ -10,6 +10,7 @@ mod cube;
 mod event;
 mod fault;
 mod laws;
+mod looking;
 mod packed;
 mod pass;
 mod plain;
@@ -33,6 +34,7 @@ pub use laws::{
     passes_have_facts, reached_states_are_sound, rows_of_sound_states_exclude, rows_stay,
     words_are_small,
 };
+pub use looking::{next_slot, pairs_shown};
 pub use packed::PackedRows;
 pub use plain::PlainBoard;
 pub use problem::Problem;

@@ -54,11 +54,10 @@ impl PackedRows {
         if slot >= self.slots {
             return None;
         }
-        let words = words_of(&self.words, slot);
-        if words[0] == 0 {
+        if self.words[ROW_WORDS * slot as usize] == 0 {
             return None;
         }
-        Some(row_of(&words))
+        Some(row_of(&words_of(&self.words, slot)))
     }
 }
 

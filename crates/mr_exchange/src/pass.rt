@@ -5,7 +5,7 @@ ghost use Rattle.mr_exchange.specs.Events.{knowing, known_after, claimed, opened
 
 use crate::{LOOKS, SHORT, Ticket};
 use mr_assign::Assign;
-use mr_nogood::{Row, pack};
+use mr_nogood::{Row, head_of};
 use std::alloc::{AllocError, Global};
 use std::marker::Model;
 
@@ -182,7 +182,7 @@ fn head(row: &Option<Row>) -> u64
     ensures { result ≡ head_at row.now }
 {
     match row {
-        Some(row) => pack(row)[0],
+        Some(row) => head_of(row),
         None => 0,
     }
 }

@@ -10,7 +10,7 @@ ghost use Rattle.mr_exchange.specs.Plain.{PlainIs, plain_holding, IsPlainPass};
 
 use crate::closed::ClosedRows;
 use crate::slots::Slots;
-use crate::{Board, Closed, LOOKS, Look, Problem, SHORT, Ticket};
+use crate::{Board, Closed, LOOKS, Look, Problem, SHORT, Ticket, next_slot, pairs_shown};
 use mr_assign::Assign;
 use mr_frame::Frame;
 use mr_nogood::{Row, head_of};
@@ -169,14 +169,6 @@ fn one_more_look(looks: u32, nodes: u32) -> u32
     (looks + 1).min(LOOKS * nodes)
 }
 
-// The slot to look at after this one.
-fn next_slot(slot: u32, latest: u32) -> u32
-    requires { slot ≤ latest }
-    ensures { result ≡ (if slot == latest then 0 else slot + 1) }
-{
-    if slot == latest { 0 } else { slot + 1 }
-}
-
 // The head of a slot.
 fn head_at(found: Option<&Row>) -> u64
     ensures head { result ≡ head_at (option_copied found.entry) }
@@ -196,8 +188,7 @@ fn seen(slot: u32, found: Option<&Row>, head: u64) -> Look
 {
     match found {
         Some(row) => {
-            let pairs = (head - (1 << 63)) / (1 << 40);
-            if pairs <= u64::from(SHORT) {
+            if pairs_shown(head) <= u64::from(SHORT) {
                 Look::Short(slot, *row)
             } else {
                 Look::Long

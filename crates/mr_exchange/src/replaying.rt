@@ -28,10 +28,7 @@ pub fn replay(
     // A refusal names the first event that isn't allowed.
     ensures not_allowed { (place : ℕ) → IsErrOf result (NotAllowed place) → IsFirstRefused (new_state frame.now problem passes) events.now place }
 {
-    let mut state = match State::new(alloc, frame, problem, passes) {
-        Ok(state) => state,
-        Err(_) => return Err(ReplayFault::Memory),
-    };
+    let mut state = State::new(alloc, frame, problem, passes)?;
     for place in 0..events.len() as u32 {
         match state.step(frame, &events[place as usize]) {
             Ok(_) => {}

@@ -31,13 +31,11 @@ impl Slots {
     pub(crate) fn of_count(alloc: Global, n: u32) -> Result<Slots, AllocError>
         ensures { IfOk result (λ slots. slots ≡ replicate n None) }
     {
-        match Vec::with_capacity(alloc, n as usize) {
-            Ok(items) => Ok(Slots {
-                items,
-                rest: n as usize,
-            }),
-            Err(e) => Err(e),
-        }
+        let items = Vec::with_capacity(alloc, n as usize)?;
+        Ok(Slots {
+            items,
+            rest: n as usize,
+        })
     }
 
     /// The slots of a list.

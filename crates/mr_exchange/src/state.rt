@@ -93,18 +93,12 @@ impl State {
     {
         // The clauses of `problem` say that the state is sound.
         let _problem = self.problem();
-        match self.allows(frame, e) {
-            Ok(allowed) => {
-                if !allowed {
-                    return Err(StepFault::NotAllowed);
-                }
-            }
-            Err(_) => return Err(StepFault::Memory),
+        let allowed = self.allows(frame, e)?;
+        if !allowed {
+            return Err(StepFault::NotAllowed);
         }
-        match self.change(e) {
-            Ok(reply) => Ok(reply),
-            Err(_) => Err(StepFault::Memory),
-        }
+        let reply = self.change(e)?;
+        Ok(reply)
     }
 
     /// The problem. The state is sound.

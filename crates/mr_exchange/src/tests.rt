@@ -230,19 +230,19 @@ fn moved<T: Send + Sync>(value: T) -> T {
     value
 }
 
-// Whether a new state, that crosses to another thread, has no row.
+// Whether a new state, which may cross to another thread, has no row.
 fn is_empty_on(alloc: Global, frame: &Frame) -> Option<bool> {
     let state = moved(started(alloc, frame)?);
     Some(state.row(0).is_none())
 }
 
 // The same on the plane.
-fn is_empty_elsewhere(alloc: Global) -> Option<bool> {
+fn is_empty_on_the_plane(alloc: Global) -> Option<bool> {
     let fano = fano(alloc)?;
     is_empty_on(alloc, &fano)
 }
 
 #[test]
 fn a_state_may_cross_threads(rt: HostRuntime) {
-    assert!(rt; is_empty_elsewhere(rt.alloc()) == Some(true));
+    assert!(rt; is_empty_on_the_plane(rt.alloc()) == Some(true));
 }

@@ -12,17 +12,12 @@ use Rattle.mr_exchange.specs.declared.TheConstants.{PASSES}
 use Rattle.mr_exchange.specs.Cubes.{IsProblemOf}
 use Rattle.mr_exchange.specs.State.{new_state, new_pass}
 use Rattle.mr_exchange.specs.Sound.{IsSound}
+use Rattle.mr_exchange.proofs.RowWords.{zero_at}
 use Rattle.mr_exchange.proofs.Runs.{new_states_are_sound}
 use Rattle.mr_store.specs.Seats.{Setting, Seen, word_at, first_view}
 use Rattle.mr_store.specs.Shown.{shown, rows_in_words, IsFound, IsTied, Holds}
 use Rattle.mr_store.proofs.Words.{rows_of-none}
 use Rattle.mr_store.proofs.Forking.{none_in}
-
--- each of zeros is one
-zero_at : (n i : ℕ) → slice_index (replicate {A = ℕ} n 0) i ≡ 0
-zero_at zero i = refl
-zero_at (suc n) zero = refl
-zero_at (suc n) (suc i) = zero_at n i
 
 module _ (g : Setting) (words : List ℕ) (zeros : words ≡ replicate (word_at g.problem.nodes 0) 0) where
   -- each word is 0

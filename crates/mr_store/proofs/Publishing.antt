@@ -1,12 +1,11 @@
 -- A pass stores the head of a row whose other words stand in a slot of its own.
-use Rattle.std.proofs.Common.{◌≡◌, ◌≢◌, ℕ, ◌<◌, ◌≤◌, if◌then◌else◌, IsTrue, List, map, length, set, slice_index, Some, None, Contains, refl, sym, ap, ◌∙◌, inl, inr, ⊎_elim, subst, arith, length-set, length-drop, drop, get_or-set_same}
+use Rattle.std.proofs.Common.{◌≡◌, ◌≢◌, ℕ, ◌+◌, ◌<◌, ◌≤◌, if◌then◌else◌, IsTrue, List, map, length, set, slice_index, Some, None, Contains, refl, sym, ap, ◌∙◌, inl, inr, ⊎_elim, subst, arith, length-set, get_or-set_same}
 use mathlib.Core.Option.{some}
 use mathlib.Core.Option as plain
 use lib.ListN.{get_elem?}
 use native.Mathlib.Decide.{ℕ_discrete}
 use Rattle.std.proofs.Math.Path.{fun_ext}
 use Rattle.std.proofs.lemmas.Option.{none-some, same_Some}
-use Rattle.std.proofs.lemmas.List.{ext_get_or, length-take}
 use Rattle.atomic_table.specs.Table as table
 use Rattle.atomic_table.specs.Table.{Me, Allows, step}
 use Rattle.atomic_table.specs.Table.Act.{keeps}
@@ -15,8 +14,6 @@ use Rattle.mr_nogood.specs.declared.row.Row.{Row}
 use Rattle.mr_nogood.specs.Row.{IsRow}
 use Rattle.mr_nogood.specs.Follows.{Rows}
 use Rattle.mr_nogood.specs.Packing.{row_packing, head_of}
-use Rattle.mr_nogood.specs.Unpacking.{unpacked}
-use Rattle.mr_nogood.proofs.Words.{unpacked-packed}
 use Rattle.mr_exchange.specs.declared.event.Event.TheVariants.{Publish}
 use Rattle.mr_exchange.specs.declared.event.Reply.TheVariants.{Done}
 use Rattle.mr_exchange.specs.State.{State, pass_at, slots_of}
@@ -26,6 +23,7 @@ use Rattle.mr_exchange.specs.Board.{Holding, holding_of, CanPublish}
 use Rattle.mr_exchange.proofs.Totals.{eq_cases}
 use Rattle.mr_exchange.proofs.Lookups.{knowing_this, knowing_more, knowing_cases}
 use Rattle.mr_exchange.proofs.Rows.{among_more}
+use Rattle.mr_exchange.proofs.RowWords.{length-packed, words_are as words_are_in}
 use Rattle.mr_exchange.proofs.OnePass.{passes_have_facts}
 use Rattle.mr_exchange.proofs.Runs.{allowed_events_keep_soundness}
 use Rattle.mr_exchange.proofs.Holdings.{may_publish}
@@ -34,7 +32,7 @@ use Rattle.mr_store.specs.Shown.{shown, slot_words, rows_in_words, IsTied, Holds
 use Rattle.mr_store.specs.Steps.{Publishes}
 use Rattle.mr_store.specs.Kinds.{PublicationsAreEvents}
 use Rattle.mr_store.proofs.Finding.{find_here, find_else, find_cases, find_in, in_cons, same_place, told_more, told_met}
-use Rattle.mr_store.proofs.Words.{rows_of-some, slot_word, other_word, length-packed}
+use Rattle.mr_store.proofs.Words.{rows_of-packed, other_word}
 use Rattle.mr_store.proofs.Showing.{passes_set, pass_here, live_here, number_here, tied_here, setting_here, shown_here, holding_shown, happened}
 use Rattle.mr_store.proofs.Tying.{set_there, tie}
 use Rattle.mr_store.proofs.Laying.{empty, drawn, there, elsewhere, claim_same, ticket_same, stored_tied}
@@ -65,12 +63,10 @@ module _ (g : Setting) (s : table.State (Unit {0}) Seen) (id : ℕ) (v : Seen) (
 
   -- its words are those of the row
   pub words_are : slot_words filled slot ≡ row_packing row
-  words_are = ext_get_or 0 (slot_words filled slot) (row_packing row) (long ∙ sym (length-packed row good)) (λ j lt. let low : j < ROW_WORDS = omega (arith, long) in slot_word filled slot j low ∙ word j low (ℕ_discrete j 0))
+  words_are = sym (words_are_in filled (word_at slot 0) (row_packing row) (length-packed row good) room (λ j low. sym (word j low (ℕ_discrete j 0)) ∙ ap (slice_index filled) (let e : word_at slot j ≡ word_at slot 0 + j = omega arith in e)))
     where
-      long : length (slot_words filled slot) ≡ ROW_WORDS
-      long =
-          let a = length-take ROW_WORDS (drop (word_at slot 0) filled) in
-          let b = length-drop (word_at slot 0) filled in
+      room : word_at slot 0 + ROW_WORDS ≤ length filled
+      room =
           let c = length-set s.words (word_at slot 0) (head_of row) in
           let d = h.tied.size in
           let e = (drawn g s id v h at live slot can.own can.empty 0 some_words (head_of row)).1 in
@@ -82,8 +78,7 @@ module _ (g : Setting) (s : table.State (Unit {0}) Seen) (id : ℕ) (v : Seen) (
 
   -- so it has the row
   pub row_there : rows_in_words filled slot ≡ Some row
-  row_there = rows_of-some filled slot (λ e. let same = get_or-set_same s.words (word_at slot 0) (head_of row) 0 (there g s id v h at live slot can.own can.empty 0 some_words (head_of row)) in omega arith)
-      ∙ ap (λ ws. Some (unpacked ws)) words_are ∙ ap (λ (r : Row). Some r) (unpacked-packed row good)
+  row_there = rows_of-packed filled slot row good words_are
 
   -- the rows are those before, and this one
   pub rows_then : with_row (rows_in_words s.words) slot row ≡ rows_in_words filled

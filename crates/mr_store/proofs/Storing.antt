@@ -19,6 +19,7 @@ use Rattle.mr_exchange.specs.State.{State, slots_of, latest_of, head_at}
 use Rattle.mr_exchange.specs.Events.{IsAllowedEvent, seen, state_after, reply_of}
 use Rattle.mr_exchange.specs.Board.{CanPublish}
 use Rattle.mr_exchange.proofs.Totals.{eq_cases}
+use Rattle.mr_exchange.proofs.RowWords.{length-packed}
 use Rattle.mr_exchange.proofs.Steps.{latest_among}
 use Rattle.mr_store.specs.Seats.{Setting, Seen, IsTold, find, word_at, known_of, holding_seen, view_looked}
 use Rattle.mr_store.specs.Shown.{Holds}
@@ -27,7 +28,6 @@ use Rattle.mr_store.specs.Private.Laying.{HasRow, row_seen}
 use Rattle.mr_store.specs.Cards.{IsEvent}
 use Rattle.mr_store.specs.Private.Cards.{IsCard}
 use Rattle.mr_store.proofs.Finding.{find_here}
-use Rattle.mr_store.proofs.Words.{length-packed}
 use Rattle.mr_store.proofs.Laying.{lays}
 use Rattle.mr_store.proofs.Publishing.{publishes}
 use Rattle.mr_store.proofs.Looking.{looks}

@@ -1,5 +1,5 @@
 -- The state that the words and what the seats know show, and the rule that holds between any two steps.
-use Rattle.std.specs.Prelude.{◌≡◌, ◌↔◌, ◌⊎◌, ℕ, ◌<◌, ◌≤◌, IsTrue, List, ◌==◌, if◌then◌else◌, map, take, drop, length, slice_index, Some, None, Contains}
+use Rattle.std.specs.Prelude.{◌≡◌, ◌↔◌, ◌⊎◌, ℕ, ◌<◌, ◌≤◌, IsTrue, List, map, length, slice_index, Some, Contains}
 use mathlib.Core.Option.{some}
 use lib.ListN.{get_elem?}
 use Rattle.atomic_table.specs.Table as table
@@ -9,21 +9,21 @@ use Rattle.mr_nogood.specs.declared.row.Row.{Row}
 use Rattle.mr_nogood.specs.Row.{IsRow}
 use Rattle.mr_nogood.specs.Follows.{Rows}
 use Rattle.mr_nogood.specs.Packing.{row_packing}
-use Rattle.mr_nogood.specs.Unpacking.{unpacked}
 use Rattle.mr_exchange.specs.declared.TheConstants.{PASSES}
 use Rattle.mr_exchange.specs.declared.ticket.Ticket.{Ticket}
 use Rattle.mr_exchange.specs.Cubes.{IsProblemOf}
 use Rattle.mr_exchange.specs.State.{State, slots_of, IsShort}
 use Rattle.mr_exchange.specs.Sound.{IsSound}
+use Rattle.mr_exchange.specs.Words.{words_at, row_read}
 use Rattle.mr_store.specs.Seats.{Setting, Seen, find, or_zero, word_at}
 
 -- the words of a slot
 abbrev pub slot_words : List ℕ → ℕ → List ℕ
-slot_words words slot = take ROW_WORDS (drop (word_at slot 0) words)
+slot_words words slot = words_at words (word_at slot 0)
 
--- a slot has a row where its head isn't 0: the one that is read from its words
+-- a slot has the row that is read from its words, where its head isn't 0
 unfoldable pub rows_in_words : List ℕ → Rows
-rows_in_words words slot = if slice_index words (word_at slot 0) == 0 then None else Some (unpacked (slot_words words slot))
+rows_in_words words slot = row_read (slot_words words slot)
 
 -- The state that is shown: the claim word and the ticket word, the passes of the seats, and the rows that the words have.
 abbrev pub shown : Setting → List ℕ → List Seen → State

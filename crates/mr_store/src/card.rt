@@ -11,7 +11,7 @@ use crate::store::Store;
 use crate::view::View;
 use atomic_table::Seat;
 use mr_assign::Assign;
-use mr_exchange::{Look, Problem};
+use mr_exchange::{Look, Problem, next_slot};
 use mr_nogood::{Row, pack};
 use std::marker::{Brand, Model};
 
@@ -106,12 +106,4 @@ impl Card {
         self.cursor = next_slot(slot, self.latest);
         shown(&store.table.shared, &mut self.seat, slot, head)
     }
-}
-
-// The slot to look at after this one.
-fn next_slot(slot: u32, latest: u32) -> u32
-    requires { slot ≤ latest }
-    ensures { result ≡ (if slot == latest then 0 else slot + 1) }
-{
-    if slot == latest { 0 } else { slot + 1 }
 }

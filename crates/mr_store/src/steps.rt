@@ -19,7 +19,7 @@ use crate::rule::{Check, Lay, LookAt, Noded, Open, Peek, Publish, Read, Rowed, R
 use crate::view::View;
 use atomic_table::{Seat, Shared};
 use mr_assign::Assign;
-use mr_exchange::{Look, PackedRows, SHORT};
+use mr_exchange::{Look, PackedRows, SHORT, pairs_shown};
 use mr_nogood::{ROW_WORDS, Row, row_of};
 
 pub(crate) type Words = Shared<(), View, Key, Ruled>;
@@ -206,12 +206,4 @@ fn word_at(slot: u32, j: usize) -> usize
     ensures { result ≡ word_at slot j }
 {
     2 + ROW_WORDS * (slot as usize) + j
-}
-
-// How many pairs a head shows.
-fn pairs_shown(head: u64) -> u64
-    requires { 2 ^ 63 ≤ head }
-    ensures { result ≡ pairs_shown head }
-{
-    (head - (1 << 63)) / (1 << 40)
 }

@@ -1,19 +1,15 @@
 -- Rows kept as packed words.
-use Rattle.std.specs.Prelude.{◌≡◌, ℕ, ◌<◌, ◌≤◌, ◌*◌, ◌==◌, if◌then◌else◌, List, map, take, drop, length, slice_index, Option, Some, None}
+use Rattle.std.specs.Prelude.{◌≡◌, ℕ, ◌<◌, ◌≤◌, ◌*◌, List, map, length, Option, Some}
 use Rattle.std.specs.List.{range_with_len}
 use Rattle.mr_nogood.specs.declared.TheConstants.{ROW_WORDS}
 use Rattle.mr_nogood.specs.declared.row.Row.{Row}
 use Rattle.mr_nogood.specs.Row.{IsRow}
 use Rattle.mr_nogood.specs.Packing.{row_packing}
-use Rattle.mr_nogood.specs.Unpacking.{unpacked}
+use Rattle.mr_exchange.specs.Words.{words_at, row_read}
 
 -- the words of a slot
 abbrev pub words_of : List ℕ → ℕ → List ℕ
-words_of words slot = take ROW_WORDS (drop (ROW_WORDS * slot) words)
-
--- the row that is read from the words of a slot, where the first of them isn't 0
-abbrev pub row_read : List ℕ → Option Row
-row_read words = if slice_index words 0 == 0 then None else Some (unpacked words)
+words_of words slot = words_at words (ROW_WORDS * slot)
 
 -- the rows of so many slots
 abbrev pub rows_read : List ℕ → ℕ → List (Option Row)

@@ -2,7 +2,7 @@
 use Rattle.std.proofs.Common.{◌≡◌, ◌≢◌, ◌<◌, ◌+◌, ◌*◌, ◌∙◌, sym, length-set, get_or, get_or-set_same, get_or-set_other, arith, inl, inr, ⊎_elim}
 use Rattle.std.proofs.lemmas.Bool.{cases_eq, cases_lt}
 use Rattle.mr_nogood.specs.declared.TheConstants.{ROW_WORDS}
-use Rattle.mr_exchange.proofs.WordRows.{words-same, others-same}
+use Rattle.mr_exchange.proofs.RowWords.{words_are, words_same}
 use Rattle.mr_exchange.proofs.packed.copy_words.Goals as goal
 
 pub loop-j-preserved : goal.loop-j-preserved
@@ -26,10 +26,10 @@ pub returns-clause-here : goal.returns-clause-here
 returns-clause-here c =
     let size = c.loop-j.invariant.size in
     let room = c.requires in
-    sym (words-same c.loop-j.words.items c.args.row.now c.args.slot (omega arith) (omega arith) (λ j lt. sym (c.loop-j.invariant.here j (omega arith))))
+    sym (words_are c.loop-j.words.items (ROW_WORDS * c.args.slot) c.args.row.now (omega arith) (omega arith) (λ j lt. sym (c.loop-j.invariant.here j (omega arith))))
 
 pub returns-clause-others : goal.returns-clause-others
-returns-clause-others c = λ other apart. others-same c.args.words.now.items c.loop-j.words.items other c.loop-j.invariant.size (λ j lt. c.loop-j.invariant.others (ROW_WORDS * other + j) (elim (cases_lt other c.args.slot) [
+returns-clause-others c = λ other apart. words_same c.loop-j.words.items c.args.words.now.items (ROW_WORDS * other) c.loop-j.invariant.size (λ j lt. c.loop-j.invariant.others (ROW_WORDS * other + j) (elim (cases_lt other c.args.slot) [
   | inl before ↦ inl (omega arith)
   | inr after ↦ inr (omega arith)
 ]))

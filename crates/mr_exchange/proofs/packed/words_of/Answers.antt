@@ -2,7 +2,7 @@
 use Rattle.std.proofs.Common.{◌≡◌, ◌≢◌, ◌+◌, ◌*◌, ◌∙◌, length-set, get_or, get_or-set_same, get_or-set_other, arith, ⊎_elim}
 use Rattle.std.proofs.lemmas.Bool.{cases_eq}
 use Rattle.mr_nogood.specs.declared.TheConstants.{ROW_WORDS}
-use Rattle.mr_exchange.proofs.WordRows.{words-same}
+use Rattle.mr_exchange.proofs.RowWords.{words_are}
 use Rattle.mr_exchange.proofs.packed.words_of.Goals as goal
 
 pub loop-j-preserved : goal.loop-j-preserved
@@ -20,4 +20,4 @@ loop-j-preserved c =
     }
 
 pub returns : goal.returns
-returns c = words-same c.args.words.now c.loop-j.row c.args.slot c.loop-j.invariant.size c.requires (λ j lt. c.loop-j.invariant.read j (omega arith))
+returns c = words_are c.args.words.now (ROW_WORDS * c.args.slot) c.loop-j.row c.loop-j.invariant.size c.requires (λ j lt. c.loop-j.invariant.read j (omega arith))

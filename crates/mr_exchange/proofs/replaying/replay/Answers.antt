@@ -17,4 +17,4 @@ pub loop-place-preserved : goal.loop-place-preserved
 loop-place-preserved c =
     let within : c.loop-place.place < length c.args.events.now = let test = c.loop-place-test.true in omega arith in
     replayed_further c.args.frame.now (new_state c.args.frame.now c.args.problem c.args.passes) c.args.events.now c.loop-place.place c.loop-place.state c.step.new.self c.index-events-place.result c.loop-place.invariant within c.index-events-place.is
-    c.in-Ok-step.ensures.allowed c.in-Ok-step.ensures.after c.in-Ok-step.ensures.frame
+    c.in-Ok.ensures.allowed c.in-Ok.ensures.after c.in-Ok.ensures.frame

@@ -5,7 +5,7 @@ use Rattle.mr_exchange.specs.Held.{state_of}
 use Rattle.mr_exchange.proofs.Runs.{allowed_events_keep_soundness}
 use Rattle.mr_exchange.proofs.state.State.step.Goals as goal
 
-pub returns-in-Ok-change-clause-sound : goal.returns-in-Ok-change-clause-sound
-returns-in-Ok-change-clause-sound c =
-    subst IsSound (sym c.in-Ok-change.ensures.after)
-    (allowed_events_keep_soundness (state_of c.args.self.now) c.args.e.now c.problem-problem.ensures.sound (c.in-Ok.ensures.0 c.if-not-allowed.false))
+pub returns-clause-sound : goal.returns-clause-sound
+returns-clause-sound c =
+    subst IsSound (sym c.in_ok-reply.ensures.after)
+    (allowed_events_keep_soundness (state_of c.args.self.now) c.args.e.now c.problem-problem.ensures.sound (c.in_ok-allowed.ensures.0 c.if-not-allowed.false))
