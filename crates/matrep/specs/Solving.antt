@@ -67,7 +67,7 @@ pub record HasMoreNodes (f : Gf) (m : Presentation) (nodes split : ℕ) : Type 0
   pub is_frame : IsFrameOf m f frame
   pub more : HoldsOfMany (IsNode frame (min split (length frame.places))) (nodes + 1)
 
--- as many nodes were opened as the budget allows, and there are more
+-- the number told is the budget, and there are more nodes than that
 pub record IsOutOfNodes (f : Gf) (m : Presentation) (nodes split opened : ℕ) (text : List ℕ) : Type 0 where
   pub opened_is : opened ≡ nodes
   pub more : HasMoreNodes f m nodes split

@@ -38,6 +38,7 @@ mod words;
 #[cfg(test)]
 mod worker_tests;
 
+use crate::outcome::Exit;
 use mr_exchange::PASSES;
 use mr_io::{Silent, StdSink, StdSource};
 use std::alloc::{AllocError, Global};
@@ -85,7 +86,7 @@ fn word_of(alloc: Global, bytes: &[u8]) -> Result<String, AllocError> {
 fn main(rt: HostRuntime) -> ExitCode {
     let words = match gather(&rt) {
         Ok(words) => words,
-        Err(_) => return ExitCode::from(5),
+        Err(_) => return ExitCode::from(Exit::Memory.status()),
     };
     let mut input = StdSource::new(rt.reader());
     let mut output = StdSink::new(io::writer(&rt));

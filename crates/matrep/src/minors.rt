@@ -26,10 +26,8 @@ pub fn dual_bytes(alloc: Global, bytes: &[u8]) -> Result<Outcome, AllocError>
 fn dual_of(alloc: Global, m: &Matroid) -> Result<Outcome, AllocError>
     ensures { IfOk result (λ o. WritesDual m.now o.exit o.text) }
 {
-    match dual(alloc, m) {
-        Ok(dual) => file_of(alloc, &dual),
-        Err(e) => Err(e),
-    }
+    let dual = dual(alloc, m)?;
+    file_of(alloc, &dual)
 }
 
 /// The exit and the text for the minor of the matroid of a file, by the masks of the elements to delete and to contract: the file of

@@ -44,20 +44,18 @@ fn count(alloc: Global, field: Field, m: Matroid) -> Result<Outcome, AllocError>
     ensures { IfOk result (λ o. CountsClasses field o.exit o.text) }
 {
     let frame = Frame::new(alloc, m, field)?;
-    match search_frame(alloc, &frame, NODES, 0) {
-        Err(e) => Err(e),
-        Ok(searched) => match searched {
-            Searched::Forms(forms) => {
-                counted(
-                    alloc,
-                    &field,
-                    frame.matroid(),
-                    forms.as_slice().len() as u32,
-                )
-            }
-            Searched::Stopped { opened } => stopped(alloc, opened),
-            Searched::Refuted(_) => unreachable!(),
-        },
+    let searched = search_frame(alloc, &frame, NODES, 0)?;
+    match searched {
+        Searched::Forms(forms) => {
+            counted(
+                alloc,
+                &field,
+                frame.matroid(),
+                forms.as_slice().len() as u32,
+            )
+        }
+        Searched::Stopped { opened } => stopped(alloc, opened),
+        Searched::Refuted(_) => unreachable!(),
     }
 }
 

@@ -111,11 +111,9 @@ fn merge_answers(
 {
     // The clauses of `opened` say that the rows are those of a sound state.
     let _opened = answer.closed.opened();
-    match merge(alloc, frame, problem, &answer.answers, &answer.closed) {
-        Err(e) => Err(e),
-        Ok(merged) => match merged {
-            Merged::Forms(forms) => Ok(Searched::Forms(forms)),
-            Merged::Refuted(log) => Ok(Searched::Refuted(log)),
-        },
+    let merged = merge(alloc, frame, problem, &answer.answers, &answer.closed)?;
+    match merged {
+        Merged::Forms(forms) => Ok(Searched::Forms(forms)),
+        Merged::Refuted(log) => Ok(Searched::Refuted(log)),
     }
 }

@@ -26,7 +26,7 @@ pub record IsRefutedBy (f : Framed) (nodes : ℕ) (log : Log) : Type 0 where
   pub few : length log.steps ≤ nodes + PREFIXES
   pub short : f.field ≡ gf2 → IsShortLog f.matroid log
 
--- as many nodes were opened as the budget allows, and there are more
+-- the number told is the budget, and there are more nodes than that
 pub record IsSpentOn (f : Framed) (nodes split opened : ℕ) : Type 0 where
   pub opened_is : opened ≡ nodes
   pub more : HoldsOfMany (IsNode f (min split (length f.places))) (nodes + 1)

@@ -1,5 +1,5 @@
 -- the merged answers are all forms, or a refutation
-use Rattle.std.proofs.Common.{◌≡◌, ◌+◌, ◌≤◌, ℕ, List, [], ◌∷◌, length, arith}
+use Rattle.std.proofs.Common.{◌≡◌, ◌+◌, ◌≤◌, [], length}
 use Rattle.mr_assign.specs.Assign.{no_values}
 use Rattle.mr_nogood.specs.declared.row.Cite.TheVariants.{Test}
 use Rattle.mr_log.specs.declared.log.Log.{Log}
@@ -14,7 +14,7 @@ use Rattle.matrep.proofs.searching.merge_answers.Goals as goal
 pub returns-in-Forms : goal.returns-in-Forms
 returns-in-Forms c = λ split.
     let f = c.args.frame.now in
-    let told = merged_forms f c.in-Ok.merged c.in-Forms.forms c.in-Forms.is c.in-Ok.ensures.forms in
+    let told = merged_forms f c.in_ok-merged.merged c.in-Forms.forms c.in-Forms.is c.in_ok-merged.ensures.forms in
     record {
       are = told.1;
       some = told.0;
@@ -26,13 +26,13 @@ returns-in-Refuted c = λ split.
     let f = c.args.frame.now in
     let log = c.in-Refuted.log in
     let answers = c.args.answer.now.answers in
-    let refutation = merged_log c.in-Ok.merged log (λ forms. Unit {0}) (IsRefutationOf f) c.in-Refuted.is c.in-Ok.ensures.refutation in
-    let steps = merged_log c.in-Ok.merged log (λ forms. Unit {0}) (λ (l : Log). length l.steps ≤ c.args.problem.nodes + PREFIXES) c.in-Refuted.is c.in-Ok.ensures.steps in
+    let refutation = merged_log c.in_ok-merged.merged log (λ forms. Unit {0}) (IsRefutationOf f) c.in-Refuted.is c.in_ok-merged.ensures.refutation in
+    let steps = merged_log c.in_ok-merged.merged log (λ forms. Unit {0}) (λ (l : Log). length l.steps ≤ c.args.problem.nodes + PREFIXES) c.in-Refuted.is c.in_ok-merged.ensures.steps in
     record {
-      none = merged_log c.in-Ok.merged log _ (λ (l : Log). AreCompletions f no_values []) c.in-Refuted.is c.in-Ok.ensures.forms;
+      none = merged_log c.in_ok-merged.merged log _ (λ (l : Log). AreCompletions f no_values []) c.in-Refuted.is c.in_ok-merged.ensures.forms;
       refutation = refutation;
       few = steps;
       short = λ two. short_log_is f c.args.problem c.args.answer.now.closed answers c.requires.problem c.requires.closed c.opened-opened.ensures.shown c.requires.answers c.requires.first two log refutation
-          (merged_log c.in-Ok.merged log (λ forms. HasFound answers) (λ (l : Log). HasFound answers → ⊥) c.in-Refuted.is c.in-Ok.ensures.found)
-          (λ x depth is. merged_log c.in-Ok.merged log (λ forms. Unit {0}) (λ (l : Log). (l.steps ≡ []) × (l.last ≡ Test x)) c.in-Refuted.is (c.in-Ok.ensures.set x depth is));
+          (merged_log c.in_ok-merged.merged log (λ forms. HasFound answers) (λ (l : Log). HasFound answers → ⊥) c.in-Refuted.is c.in_ok-merged.ensures.found)
+          (λ x depth is. merged_log c.in_ok-merged.merged log (λ forms. Unit {0}) (λ (l : Log). (l.steps ≡ []) × (l.last ≡ Test x)) c.in-Refuted.is (c.in_ok-merged.ensures.set x depth is));
     }
