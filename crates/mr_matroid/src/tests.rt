@@ -366,7 +366,7 @@ fn is_plainly_answered(alloc: Global, family: u64) -> Option<bool> {
 
 // The first family that is not.
 fn other_family(alloc: Global) -> Option<u64> {
-    for family in 0..63 {
+    for family in 0..64 {
         if is_plainly_answered(alloc, family) != Some(true) {
             return Some(family);
         }
