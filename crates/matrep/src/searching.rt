@@ -19,7 +19,7 @@ use std::sync::Wait;
 use std::thread::Threads;
 
 /// What a search over a frame ends with: all forms, in order, of which there are some; a log that refutes that there is
-/// one; or that as many nodes were opened as may be.
+/// one; or the budget of nodes, where there are more than that.
 #[derive(Drop)]
 pub enum Searched {
     Forms(AssignList),

@@ -9,7 +9,7 @@ ghost use Rattle.mr_check.specs.Private.Judging.{as_check_fault};
 use crate::judge::judge;
 use mr_field::Field;
 use mr_log::{LogFault, Why, read_log};
-use std::alloc::Global;
+use std::alloc::{AllocError, Global};
 use thiserror::Error;
 
 /// How many steps an accepted log has.
@@ -25,6 +25,16 @@ pub enum CheckFault {
     Rejected { line: u32, why: Why },
     #[error("out of memory")]
     Memory,
+}
+
+impl From<AllocError> for CheckFault {
+    ghost use Rattle.mr_check.specs.declared.checker.CheckFault.TheVariants.{Memory};
+
+    ghost from_gives = { λ _ fault. fault ≡ Memory };
+
+    fn from(_: AllocError) -> CheckFault {
+        CheckFault::Memory
+    }
 }
 
 /// Whether the bytes are an accepted log over the field.

@@ -18,10 +18,8 @@ pub(crate) fn judge(alloc: Global, log: Log, field: Field) -> Result<Accepted, C
 {
     // The lines of the head, and of the matroid's file.
     let first_line = 9 + log.matroid.nonbasis_count();
-    match Frame::new(alloc, log.matroid, field) {
-        Err(_) => Err(CheckFault::Memory),
-        Ok(frame) => verdict(&frame, log.steps.as_slice(), &log.last, first_line),
-    }
+    let frame = Frame::new(alloc, log.matroid, field)?;
+    verdict(&frame, log.steps.as_slice(), &log.last, first_line)
 }
 
 // The verdict on the steps, of which the first stands in this line, and on the last line. It takes no memory.

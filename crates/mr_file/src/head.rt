@@ -21,10 +21,8 @@ pub fn read_file<'a>(
     requires { line_number + length bytes.now < 2 ^ 32 }
     ensures { MatchResult result (λ x. StandsFor whole_file line_number bytes.now (listing x.0) x.1.now x.2) (Names (IsFirstFault whole_file line_number bytes.now)) }
 {
-    match fixed_line(bytes, line_number, b"matroid 1") {
-        Err(e) => Err(e),
-        Ok(rest) => read_elements(alloc, rest, line_number + 1),
-    }
+    let rest = fixed_line(bytes, line_number, b"matroid 1")?;
+    read_elements(alloc, rest, line_number + 1)
 }
 
 // From the line with the number of elements on.
@@ -36,18 +34,14 @@ fn read_elements<'a>(
     requires { line_number + length bytes.now < 2 ^ 32 }
     ensures { MatchResult result (λ x. StandsFor from_elements line_number bytes.now (listing x.0) x.1.now x.2) (Names (IsFirstFault from_elements line_number bytes.now)) }
 {
-    match keyed_line(bytes, line_number, b"elements ") {
-        Err(e) => Err(e),
-        Ok(found) => {
-            if found.0 > ELEMENTS {
-                return Err(FileFault::Size {
-                    line: line_number,
-                    what: Measure::Elements,
-                });
-            }
-            read_rank(alloc, found.1, line_number + 1, found.0)
-        }
+    let (elements, rest) = keyed_line(bytes, line_number, b"elements ")?;
+    if elements > ELEMENTS {
+        return Err(FileFault::Size {
+            line: line_number,
+            what: Measure::Elements,
+        });
     }
+    read_rank(alloc, rest, line_number + 1, elements)
 }
 
 // From the line with the rank on.
@@ -61,26 +55,20 @@ fn read_rank<'a>(
     requires elements { elements ≤ ELEMENTS }
     ensures { MatchResult result (λ x. StandsFor (from_rank elements) line_number bytes.now (listing x.0) x.1.now x.2) (Names (IsFirstFault (from_rank elements) line_number bytes.now)) }
 {
-    match keyed_line(bytes, line_number, b"rank ") {
-        Err(e) => Err(e),
-        Ok(found) => {
-            if found.0 > elements {
-                return Err(FileFault::Size {
-                    line: line_number,
-                    what: Measure::Rank,
-                });
-            }
-            match binomial(elements, found.0) {
-                None => Err(FileFault::Size {
-                    line: line_number,
-                    what: Measure::Sets,
-                }),
-                Some(most) => {
-                    read_count(alloc, found.1, line_number + 1, elements, found.0, most)
-                }
-            }
-        }
+    let (rank, rest) = keyed_line(bytes, line_number, b"rank ")?;
+    if rank > elements {
+        return Err(FileFault::Size {
+            line: line_number,
+            what: Measure::Rank,
+        });
     }
+    let Some(most) = binomial(elements, rank) else {
+        return Err(FileFault::Size {
+            line: line_number,
+            what: Measure::Sets,
+        });
+    };
+    read_count(alloc, rest, line_number + 1, elements, rank, most)
 }
 
 // From the line with the number of nonbases on.
@@ -97,18 +85,14 @@ fn read_count<'a>(
     requires most { most ≡ choose elements rank }
     ensures { MatchResult result (λ x. StandsFor (from_count elements rank) line_number bytes.now (listing x.0) x.1.now x.2) (Names (IsFirstFault (from_count elements rank) line_number bytes.now)) }
 {
-    match keyed_line(bytes, line_number, b"nonbases ") {
-        Err(e) => Err(e),
-        Ok(found) => {
-            if found.0 > most {
-                return Err(FileFault::Size {
-                    line: line_number,
-                    what: Measure::Nonbases,
-                });
-            }
-            read_sets(alloc, found.1, line_number + 1, elements, rank, found.0)
-        }
+    let (count, rest) = keyed_line(bytes, line_number, b"nonbases ")?;
+    if count > most {
+        return Err(FileFault::Size {
+            line: line_number,
+            what: Measure::Nonbases,
+        });
     }
+    read_sets(alloc, rest, line_number + 1, elements, rank, count)
 }
 
 // From the first set on.
@@ -131,26 +115,19 @@ fn read_sets<'a>(
     for _ in 0..count {
         match set_line(rest, at, elements, rank, last) {
             Err(e) => return Err(e),
-            Ok(found) => match nonbases.push(found.0) {
-                Err(_) => return Err(FileFault::Memory),
-                Ok(()) => {
-                    last = Some(found.0);
-                    rest = found.1;
-                    at += 1;
-                }
-            },
+            Ok(found) => {
+                nonbases.extend_from_slice(&[found.0])?;
+                last = Some(found.0);
+                rest = found.1;
+                at += 1;
+            }
         }
     }
-    match fixed_line(rest, at, b"end") {
-        Err(e) => Err(e),
-        Ok(after) => Ok((
-            Listed {
-                elements,
-                rank,
-                nonbases,
-            },
-            after,
-            at + 1,
-        )),
-    }
+    let after = fixed_line(rest, at, b"end")?;
+    let listed = Listed {
+        elements,
+        rank,
+        nonbases,
+    };
+    Ok((listed, after, at + 1))
 }

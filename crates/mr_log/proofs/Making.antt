@@ -7,11 +7,14 @@ use Rattle.mr_set.specs.declared.TheConstants.{SETS}
 use Rattle.mr_set.proofs.Counting.{no_more_sets}
 use Rattle.mr_matroid.specs.Exchange.{IsWithinLimits}
 use Rattle.mr_text.specs.Format.{Format, StandsFor, IsFirstFault, IsTextOf}
-use Rattle.mr_file.specs.Reading.{whole_file, listing}
+use Rattle.mr_file.specs.Reading.{whole_file, listing, IsRefused}
 use Rattle.mr_file.specs.declared.fault.Measure.{Measure}
+use Rattle.mr_file.specs.declared.fault.FileFault.{FileFault}
+use Rattle.mr_file.specs.declared.fault.FileFault.TheVariants as file_fault
 use Rattle.mr_file.proofs.AfterFile.{file_leads}
 use Rattle.mr_log.specs.Log.{log_format}
-use Rattle.mr_log.specs.Private.Stages.{from_count, from_file, found_log, NamesBad}
+use Rattle.mr_log.specs.Reading.{file_end, IsLogRefusal}
+use Rattle.mr_log.specs.Private.Stages.{from_count, from_file, found_log, log_fault, NamesBad}
 use Rattle.mr_log.specs.declared.log.Log.{Log}
 use Rattle.mr_log.specs.declared.read.Found.{Found}
 use Rattle.mr_log.specs.declared.fault.LogFault.{LogFault}
@@ -43,3 +46,11 @@ text_read q bytes l (next, stands) = log_read q bytes l [] next stands
 -- the log with the matroid that was made
 pub with_matroid : (q : ℕ) (bytes : List ℕ) (x : Found) (m : Presentation) → IsTextOf (log_format q) bytes (found_log q x) → (m ≡ listing x.listed) × IsMatroid m → IsTextOf (log_format q) bytes (record { matroid = m; q = q; steps = x.steps; last = x.last }) × IsMatroid m
 with_matroid q bytes x m text made = (subst (λ (p : Presentation). IsTextOf (log_format q) bytes (record { matroid = p; q = q; steps = x.steps; last = x.last })) (sym made.0) text, made.1)
+
+-- the refusal of what was read, whose numbers and sets are no matroid
+pub no_matroid : (q : ℕ) (bytes : List ℕ) (x : Found) (e : FileFault) (line : ℕ) → IsTextOf (log_format q) bytes (found_log q x) → IsRefused (listing x.listed) e → line ≡ file_end (found_log q x) → IsLogRefusal q bytes (log_fault e line)
+no_matroid q bytes x (file_fault.Grammar _) line text refused is = absurd refused
+no_matroid q bytes x (file_fault.Size _ _) line text refused is = absurd refused
+no_matroid q bytes x file_fault.NoBasis line text refused is = (found_log q x, text, refused, is)
+no_matroid q bytes x (file_fault.Exchange b1 b2 e) line text refused is = (found_log q x, text, b1, b2, e, refused.fails, is)
+no_matroid q bytes x file_fault.Memory line text refused is = tt

@@ -1,3 +1,6 @@
+ghost use Rattle.std.specs.Prelude.{◌≡◌};
+
+use std::alloc::AllocError;
 use thiserror::Error;
 
 /// What is wrong with a line of a log.
@@ -18,4 +21,14 @@ pub enum LogFault {
     Bad { line: u32, why: Why },
     #[error("out of memory")]
     Memory,
+}
+
+impl From<AllocError> for LogFault {
+    ghost use Rattle.mr_log.specs.declared.fault.LogFault.TheVariants.{Memory};
+
+    ghost from_gives = { λ _ fault. fault ≡ Memory };
+
+    fn from(_: AllocError) -> LogFault {
+        LogFault::Memory
+    }
 }

@@ -52,20 +52,16 @@ fn read_whole(alloc: Global, bytes: &[u8], q: u8) -> Result<Log, LogFault>
     ensures ok { IfOk result (λ l. IsTextOf (log_format q) bytes.now l × IsMatroid l.matroid) }
     ensures refusal { IfErr result (IsLogRefusal q bytes.now) }
 {
-    match read_lines(alloc, bytes, q) {
-        Err(refusal) => Err(refusal),
-        Ok(found) => {
-            let file_end = 7 + found.listed.nonbases.len() as u32;
-            match matroid_of(alloc, &found.listed) {
-                Err(e) => Err(fault_at(e, file_end)),
-                Ok(matroid) => Ok(Log {
-                    matroid,
-                    q,
-                    steps: found.steps,
-                    last: found.last,
-                }),
-            }
-        }
+    let found = read_lines(alloc, bytes, q)?;
+    let file_end = 7 + found.listed.nonbases.len() as u32;
+    match matroid_of(alloc, &found.listed) {
+        Err(e) => Err(fault_at(e, file_end)),
+        Ok(matroid) => Ok(Log {
+            matroid,
+            q,
+            steps: found.steps,
+            last: found.last,
+        }),
     }
 }
 
@@ -75,18 +71,14 @@ fn read_lines(alloc: Global, bytes: &[u8], q: u8) -> Result<Found, LogFault>
     requires field { IsOrder q }
     ensures { MatchResult result (λ x. IsTextOf (log_format q) bytes.now (found_log q x)) (NamesBad (IsFirstFaultOf (log_format q) bytes.now)) }
 {
-    match read_title(alloc, bytes, q) {
-        Err(e) => Err(e),
-        Ok(found) => {
-            if found.1.is_empty() {
-                return Ok(found.0);
-            }
-            Err(LogFault::Bad {
-                line: found.2,
-                why: Why::Grammar,
-            })
-        }
+    let (found, rest, line) = read_title(alloc, bytes, q)?;
+    if rest.is_empty() {
+        return Ok(found);
     }
+    Err(LogFault::Bad {
+        line,
+        why: Why::Grammar,
+    })
 }
 
 // From the first line on.
@@ -112,10 +104,8 @@ fn read_field<'a>(
     requires field { IsOrder q }
     ensures { MatchResult result (λ x. StandsFor (from_field q) line_number bytes.now (found_log q x.0) x.1.now x.2) (NamesBad (IsFirstFault (from_field q) line_number bytes.now)) }
 {
-    match field_line(bytes, line_number, q) {
-        Err(e) => Err(e),
-        Ok(rest) => read_parts(alloc, rest, line_number + 1, q),
-    }
+    let rest = field_line(bytes, line_number, q)?;
+    read_parts(alloc, rest, line_number + 1, q)
 }
 
 // What follows the first line, which names the field with `q` elements.
@@ -201,13 +191,11 @@ fn read_steps<'a>(
     for number in 0..count {
         match step_line(rest, at, &listed, q, number) {
             Err(e) => return Err(e),
-            Ok(found) => match steps.push(found.0) {
-                Err(_) => return Err(LogFault::Memory),
-                Ok(()) => {
-                    rest = found.1;
-                    at += 1;
-                }
-            },
+            Ok(found) => {
+                steps.push(found.0)?;
+                rest = found.1;
+                at += 1;
+            }
         }
     }
     match end_line(rest, at, &listed) {

@@ -43,16 +43,12 @@ pub fn read_pair(alloc: Global, bytes: &[u8], field: Field) -> Result<Pair, File
     // A refusal names the first fault of the whole text, or else that there is no basis, or else the first exchange that fails.
     ensures refusal { IfErr result (IsPairRefusal field bytes.now) }
 {
-    match read_parts(alloc, bytes, field) {
-        Err(e) => Err(e),
-        Ok(found) => match matroid_of(alloc, &found.listed) {
-            Err(e) => Err(e),
-            Ok(matroid) => Ok(Pair {
-                matroid,
-                matrix: found.matrix,
-            }),
-        },
-    }
+    let found = read_parts(alloc, bytes, field)?;
+    let matroid = matroid_of(alloc, &found.listed)?;
+    Ok(Pair {
+        matroid,
+        matrix: found.matrix,
+    })
 }
 
 // The parts of the whole text.
@@ -60,15 +56,11 @@ fn read_parts(alloc: Global, bytes: &[u8], field: Field) -> Result<Found, FileFa
     requires { length bytes.now + 1 < 2 ^ 32 }
     ensures { MatchResult result (λ x. IsTextOf (pair_format field) bytes.now (found_pair x)) (Names (IsFirstFaultOf (pair_format field) bytes.now)) }
 {
-    match read_lines(alloc, bytes, field) {
-        Err(e) => Err(e),
-        Ok(found) => {
-            if found.1.is_empty() {
-                return Ok(found.0);
-            }
-            Err(FileFault::Grammar { line: found.2 })
-        }
+    let (found, rest, line) = read_lines(alloc, bytes, field)?;
+    if rest.is_empty() {
+        return Ok(found);
     }
+    Err(FileFault::Grammar { line })
 }
 
 // The parts, what follows them, and the number of the next line.
@@ -80,22 +72,16 @@ fn read_lines<'a>(
     requires { length bytes.now + 1 < 2 ^ 32 }
     ensures { MatchResult result (λ x. StandsFor (pair_format field) 1 bytes.now (found_pair x.0) x.1.now x.2) (Names (IsFirstFault (pair_format field) 1 bytes.now)) }
 {
-    match read_file(alloc, bytes, 1) {
-        Err(e) => Err(e),
-        Ok(file) => {
-            match read_sized(alloc, field, file.0.rank, file.0.elements, file.1, file.2) {
-                Err(e) => Err(e),
-                Ok(block) => Ok((
-                    Found {
-                        listed: file.0,
-                        matrix: block.0,
-                    },
-                    block.1,
-                    block.2,
-                )),
-            }
-        }
-    }
+    let (listed, rest, line) = read_file(alloc, bytes, 1)?;
+    let (matrix, after, next_line) = read_sized(
+        alloc,
+        field,
+        listed.rank,
+        listed.elements,
+        rest,
+        line,
+    )?;
+    Ok((Found { listed, matrix }, after, next_line))
 }
 
 // The matrix of a block of `r` rows and `n` columns, what follows it, and the number of the next line.
@@ -112,16 +98,11 @@ fn read_sized<'a>(
     requires flat { r ≤ n }
     ensures { MatchResult result (λ x. StandsFor (sized_block field r n done) line_number bytes.now x.0 x.1.now x.2) (Names (IsFirstFault (sized_block field r n done) line_number bytes.now)) }
 {
-    match header_line(bytes, line_number, field.order()) {
-        Err(e) => Err(e),
-        Ok(found) => {
-            if has_size(found.0, r, n) {
-                read_rows(alloc, found.1, line_number + 1, field, r, n)
-            } else {
-                Err(FileFault::Grammar { line: line_number })
-            }
-        }
+    let (shape, rest) = header_line(bytes, line_number, field.order())?;
+    if has_size(shape, r, n) {
+        return read_rows(alloc, rest, line_number + 1, field, r, n);
     }
+    Err(FileFault::Grammar { line: line_number })
 }
 
 // Whether these are the numbers of rows and columns.

@@ -41,15 +41,11 @@ fn read_whole(alloc: Global, bytes: &[u8], field: Field) -> Result<Matrix, FileF
     requires { length bytes.now + 1 < 2 ^ 32 }
     ensures { MatchResult result (IsTextOf (whole_block field) bytes.now) (Names (IsFirstFaultOf (whole_block field) bytes.now)) }
 {
-    match read_block(alloc, bytes, 1, field) {
-        Err(e) => Err(e),
-        Ok(found) => {
-            if found.1.is_empty() {
-                return Ok(found.0);
-            }
-            Err(FileFault::Grammar { line: found.2 })
-        }
+    let (matrix, rest, line) = read_block(alloc, bytes, 1, field)?;
+    if rest.is_empty() {
+        return Ok(matrix);
     }
+    Err(FileFault::Grammar { line })
 }
 
 // The same refusal of the block.
@@ -75,23 +71,14 @@ fn read_block<'a>(
     requires { line_number + length bytes.now < 2 ^ 32 }
     ensures { MatchResult result (λ x. StandsFor (whole_block field) line_number bytes.now x.0 x.1.now x.2) (Names (IsFirstFault (whole_block field) line_number bytes.now)) }
 {
-    match header_line(bytes, line_number, field.order()) {
-        Err(e) => Err(e),
-        Ok(found) => match excess(found.0) {
-            Some(what) => Err(FileFault::Size {
-                line: line_number,
-                what,
-            }),
-            None => read_rows(
-                alloc,
-                found.1,
-                line_number + 1,
-                field,
-                found.0.rows,
-                found.0.cols,
-            ),
-        },
+    let (shape, rest) = header_line(bytes, line_number, field.order())?;
+    if let Some(what) = excess(shape) {
+        return Err(FileFault::Size {
+            line: line_number,
+            what,
+        });
     }
+    read_rows(alloc, rest, line_number + 1, field, shape.rows, shape.cols)
 }
 
 /// The matrix of `r` rows and `n` columns of which the rows are due, what follows it, and the number of the next line.
@@ -108,10 +95,8 @@ pub fn read_rows<'a>(
     requires flat { r ≤ n }
     ensures { MatchResult result (λ x. StandsFor (row_lines_of field r n done) line_number bytes.now x.0 x.1.now x.2) (Names (IsFirstFault (row_lines_of field r n done) line_number bytes.now)) }
 {
-    match Matrix::zero(alloc, field, r, n) {
-        Err(_) => Err(FileFault::Memory),
-        Ok(matrix) => fill(matrix, bytes, line_number),
-    }
+    let matrix = Matrix::zero(alloc, field, r, n)?;
+    fill(matrix, bytes, line_number)
 }
 
 // The matrix with the rows that are read.
@@ -130,19 +115,13 @@ fn fill<'a>(
     let mut rest = bytes;
     let mut at = line_number;
     for i in 0..r {
-        match row_line(rest, at, &field, n) {
-            Err(e) => return Err(e),
-            Ok(found) => {
-                set_row(&mut filled, i, found.0.as_slice());
-                rest = found.1;
-                at += 1;
-            }
-        }
+        let (row, after) = row_line(rest, at, &field, n)?;
+        set_row(&mut filled, i, row.as_slice());
+        rest = after;
+        at += 1;
     }
-    match fixed_line(rest, at, b"end") {
-        Err(e) => Err(e),
-        Ok(after) => Ok((filled, after, at + 1)),
-    }
+    let after = fixed_line(rest, at, b"end")?;
+    Ok((filled, after, at + 1))
 }
 
 /// Writes a row.

@@ -25,10 +25,8 @@ pub fn matroid_of(alloc: Global, a: &Matrix) -> Result<Matroid, OfFault>
     if rank < a.rows() {
         return Err(OfFault::RankShort { rank });
     }
-    match matroid_of_full(alloc, a) {
-        Ok(matroid) => Ok(matroid),
-        Err(_) => Err(OfFault::Memory),
-    }
+    let matroid = matroid_of_full(alloc, a)?;
+    Ok(matroid)
 }
 
 // The matroid where the rank is the number of rows.

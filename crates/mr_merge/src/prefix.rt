@@ -129,10 +129,8 @@ fn cite_for_prefix(
                 clause: prefix,
                 cites: all_eight(children),
             };
-            match table.push(row) {
-                Err(e) => Err(e),
-                Ok(()) => Ok(Cite::Slot(slot)),
-            }
+            table.push(row)?;
+            Ok(Cite::Slot(slot))
         }
     }
 }

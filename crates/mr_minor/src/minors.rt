@@ -34,10 +34,8 @@ pub fn minor(
         None => {
             let deleted = set_of_bits(n, deleted);
             let contracted = set_of_bits(n, contracted);
-            match minor_of(alloc, m, deleted, contracted) {
-                Ok(minor) => Ok(minor),
-                Err(_) => Err(MinorFault::Memory),
-            }
+            let minor = minor_of(alloc, m, deleted, contracted)?;
+            Ok(minor)
         }
     }
 }

@@ -25,10 +25,10 @@ loop-number-preserved c =
     let long = c.loop-number.invariant.count in
     record {
       numbers = omega (arith, less, numbers);
-      count = ap length c.in-Ok-push.ensures.ok ∙ omega (arith, more, long);
+      count = ap length c.in_ok-push-in-Ok.ensures.ok ∙ omega (arith, more, long);
       leads =
           subst (λ (s : List Row). Leads (Start c.args.q m c.args.count) c.args.line_number c.args.bytes.now (from_steps c.args.q m (c.args.count - (c.loop-number.number + 1)) s) (c.loop-number.at + 1) c.in-Ok.found.1.now)
-          (sym c.in-Ok-push.ensures.ok)
+          (sym c.in_ok-push-in-Ok.ensures.ok)
           (steps_on c.args.q m c.args.count (c.args.count - c.loop-number.number) (c.args.count - (c.loop-number.number + 1)) c.args.line_number c.args.bytes.now c.loop-number.steps c.loop-number.number c.loop-number.at c.loop-number.rest.now c.in-Ok.found.0 c.in-Ok.found.1.now
           (omega arith) c.loop-number.invariant.count c.loop-number.invariant.leads c.in-Ok.ensures);
     }

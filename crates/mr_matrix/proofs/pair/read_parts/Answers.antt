@@ -9,5 +9,5 @@ use Rattle.mr_matrix.proofs.pair.read_parts.Goals as goal
 
 pub returns-then-is_empty : goal.returns-then-is_empty
 returns-then-is_empty c =
-    let none = empty c.in-Ok.found.1.now ((Decides-eqb (length c.in-Ok.found.1.now) 0).0 (sym c.is_empty.ensures ∙ c.if-is_empty.true)) in
-    (c.in-Ok.found.2, subst (λ (w : List ℕ). StandsFor (pair_format c.args.field) 1 c.args.bytes.now (found_pair c.in-Ok.found.0) w c.in-Ok.found.2) none c.in-Ok.ensures)
+    let none = empty c.in_ok-found.rest.now ((Decides-eqb (length c.in_ok-found.rest.now) 0).0 (sym c.is_empty.ensures ∙ c.if-is_empty.true)) in
+    (c.in_ok-found.line, subst (λ (w : List ℕ). StandsFor (pair_format c.args.field) 1 c.args.bytes.now (found_pair c.in_ok-found.found) w c.in_ok-found.line) none c.in_ok-found.ensures)
