@@ -1,11 +1,12 @@
 -- Rows that are added for prefixes, at most one for each.
-use Rattle.std.proofs.Common.{◌≡◌, ◌≢◌, ℕ, suc, ◌+◌, ◌-◌, ◌<◌, ◌≤◌, List, [], ◌∷◌, ◌++◌, length, map, get_or, Option, Some, refl, sym, ap, subst, ◌∙◌, inl, inr, arith, length-append, append_assoc, append-nil}
+use Rattle.std.proofs.Common.{◌≡◌, ◌≢◌, ℕ, zero, suc, ◌+◌, ◌-◌, ◌<◌, ◌≤◌, List, [], ◌∷◌, ◌++◌, length, map, get_or, Option, Some, refl, sym, ap, subst, ◌∙◌, inl, inr, arith, length-append, append_assoc, append-nil}
 use Rattle.std.specs.Prelude.{AllPairs}
 use Rattle.std.proofs.lemmas.Bool.{cases_lt}
 use Rattle.std.proofs.lemmas.Cmp.{nat_list_cmp_total}
 use Rattle.std.proofs.lemmas.List.{get_or_append_left, get_or-append_right, length_push, map-append, length-map}
 use Rattle.std.proofs.lemmas.List.Elements.{All-append, All-weaker, All-push, All-nil}
 use Rattle.std.proofs.lemmas.List.Quantifiers.{all_pairs_push}
+use Rattle.std.proofs.lemmas.Option.{same_Some}
 use Rattle.mr_set.specs.Subsets.{IsBefore}
 use Rattle.mr_set.proofs.Ordered.{not_before_itself}
 use Rattle.mr_frame.specs.Frame.{Framed, IsFrame}
@@ -13,7 +14,7 @@ use Rattle.mr_nogood.specs.declared.row.Row.{Row}
 use Rattle.mr_exchange.specs.Cubes.{IsCube, cube_at, cube_count}
 use Rattle.mr_exchange.proofs.CubesInOrder.{cube_else, cubes_are_in_order}
 use Rattle.mr_merge.specs.Table.{TableIs, table_is, all_rows}
-use Rattle.mr_merge.specs.Prefixes.{IsPrefixRow}
+use Rattle.mr_merge.specs.Prefixes.{IsPrefixRow, HaveRanksFrom}
 use Rattle.mr_merge.specs.Private.Prefixes.{prefix_count, IsRowAt, IsRowBelow, HaveAdded, HasAdded, AreAddedFrom}
 
 -- the rows with one that was added
@@ -43,6 +44,23 @@ pairs_join R xs ys first second across i j d less lt = elim (cases_lt j (length 
       ]
 ]
 
+-- of no rows
+pub ranks_none : (n : ℕ) → HaveRanksFrom n []
+ranks_none n i row is = cc
+
+-- of one row
+ranks_one : (n : ℕ) (row : Row) → row.rank ≡ n → HaveRanksFrom n (row ∷ [])
+ranks_one n row rank zero other is = let same = ap (λ (r : Row). r.rank) (same_Some row other is) in omega arith
+ranks_one n row rank (suc i) other is = cc
+
+-- of rows, and those after them
+pub ranks_append : (n : ℕ) (xs ys : List Row) → HaveRanksFrom n xs → HaveRanksFrom (n + length xs) ys → HaveRanksFrom n (xs ++ ys)
+ranks_append n [] ys first second i row is = let rank = second i row is in omega arith
+ranks_append n (x ∷ xs) ys first second zero row is = first zero row is
+ranks_append n (x ∷ xs) ys first second (suc i) row is =
+    let rank = ranks_append (n + 1) xs ys (λ j r at. (let e = first (suc j) r at in omega arith)) (λ j r at. (let e = second j r at in omega arith)) i row is in
+    omega arith
+
 -- at first none was added
 pub added_none : (f : Framed) (level : ℕ) (t : TableIs) → HaveAdded f level 0 t t
 added_none f level t = record {
@@ -50,6 +68,7 @@ added_none f level t = record {
   is = ap (λ (xs : List Row). table_is t.board xs) (sym (append-nil t.added));
   each = All-nil (IsRowBelow f level 0);
   once = λ i j d less lt. absurd (omega arith);
+  ranks = ranks_none (length (all_rows t));
   few = omega arith;
 }
 
@@ -67,13 +86,22 @@ module _ (f : Framed) (frame : IsFrame f) (level c : ℕ) (free : level ≤ leng
     is = same ∙ have.is;
     each = All-weaker (IsRowBelow f level c) (IsRowBelow f level (c + 1)) (λ row at. (at.0, (let lt = at.1 in omega arith), at.2)) have.more have.each;
     once = have.once;
+    ranks = have.ranks;
     few = let few = have.few in omega arith;
   }
-  added_more before t after have (inr (row, is, at)) = record {
+  added_more before t after have (inr (row, is, at, rank)) = record {
     more = have.more ++ row ∷ [];
     is = is ∙ ap (λ (x : TableIs). table_is x.board (x.added ++ row ∷ [])) have.is ∙ ap (λ (xs : List Row). table_is before.board xs) (append_assoc before.added have.more (row ∷ []));
     each = All-push (IsRowBelow f level (c + 1)) have.more row (All-weaker (IsRowBelow f level c) (IsRowBelow f level (c + 1)) (λ r b. (b.0, (let lt = b.1 in omega arith), b.2)) have.more have.each) (c, omega arith, at);
     once = all_pairs_push (λ (x : Row) (y : Row). x.clause ≢ y.clause) have.more row have.once (λ k d lt. apart (get_or have.more k d) row (have.each k d lt) at);
+    ranks =
+        let board : length t.board ≡ length before.board = ap (λ (x : TableIs). length x.board) have.is in
+        let some : length t.added ≡ length (before.added ++ have.more) = ap (λ (x : TableIs). length x.added) have.is in
+        let here = length-all_rows t in
+        let start = length-all_rows before in
+        let both = length-append before.added have.more in
+        let last : row.rank ≡ length (all_rows before) + length have.more = omega arith in
+        ranks_append (length (all_rows before)) have.more (row ∷ []) have.ranks (ranks_one (length (all_rows before) + length have.more) row last);
     few = let few = have.few in omega (arith, length_push have.more row);
   }
 

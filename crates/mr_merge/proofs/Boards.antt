@@ -29,6 +29,7 @@ use Rattle.mr_merge.specs.Private.Answers.{found_of, cite_of}
 use Rattle.mr_merge.specs.Table.{TableIs, table_is, all_rows}
 use Rattle.mr_merge.specs.Private.Table.{AreSupported}
 use Rattle.mr_merge.specs.Steps.{AreStepsTo}
+use Rattle.mr_merge.specs.Prefixes.{HaveRanksFrom}
 use Rattle.mr_merge.specs.Private.Prefixes.{AreCited, AreAddedFrom}
 use Rattle.mr_merge.specs.Merged.{IsMadeOf}
 use Rattle.mr_merge.proofs.Joining.{element_at}
@@ -110,11 +111,12 @@ module _ (f : Framed) (problem : Problem) (closed : ClosedIs) (frame_is : closed
     fit_log = let few = few_slots in let nodes = nodes_are f problem board_problem in omega arith
 
     -- steps to the end are made of the board's rows and of few others
-    pub made_of : (end : Cite) (l : Log) → AreStepsTo (in_slots (all_rows after)) end l.steps l.last → IsMadeOf f problem closed.rows l
-    made_of end l steps = record {
+    pub made_of : HaveRanksFrom (length closed.rows) after.added → (end : Cite) (l : Log) → AreStepsTo (in_slots (all_rows after)) end l.steps l.last → IsMadeOf f problem closed.rows l
+    made_of ranks end l steps = record {
       added = after.added;
       end = end;
       prefixes = added.rows;
+      ranks = ranks;
       steps = subst (λ (rows : List (Option Row)). AreStepsTo (in_slots (all_rows (table_is rows after.added))) end l.steps l.last) board steps;
     }
 

@@ -96,6 +96,7 @@ no_steps rows x = record {
   slots = [];
   number = λ s. s;
   exactly = λ s. ((λ inside. absurd (member_none s inside)), (λ leads. absurd (none_leads rows x s leads)));
+  there = λ s inside. absurd (member_none s inside);
   order = λ i j d less lt. absurd (omega arith);
   numbers = λ j s is. cc;
   count = refl;

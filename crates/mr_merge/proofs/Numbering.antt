@@ -159,6 +159,7 @@ steps_to rows end kept numbers steps are numbered made = record {
   slots = kept;
   number = slice_index numbers;
   exactly = are.exactly;
+  there = are.rows_are;
   order = are.order;
   numbers = numbered;
   count = made.count;

@@ -22,10 +22,11 @@ use Rattle.mr_exchange.proofs.Bounds.{depth_is}
 use Rattle.mr_exchange.proofs.Digits.{few_cubes}
 use Rattle.mr_merge.specs.declared.TheConstants.{PREFIXES}
 use Rattle.mr_merge.specs.Table.{TableIs, table_is, all_rows}
+use Rattle.mr_merge.specs.Prefixes.{HaveRanksFrom}
 use Rattle.mr_merge.specs.Private.Table.{AreSupported}
 use Rattle.mr_merge.specs.Private.Prefixes.{prefix_count, AreCited, HaveAdded, HasAdded, AreAddedFrom}
 use Rattle.mr_merge.proofs.Prefixing.{in_more, in_last, right_more, supported_more, prefix_follows}
-use Rattle.mr_merge.proofs.Adding.{all_rows-push, length-all_rows, added_none, added_more, added_at_first, added_level}
+use Rattle.mr_merge.proofs.Adding.{all_rows-push, length-all_rows, ranks_none, ranks_append, added_none, added_more, added_at_first, added_level}
 
 -- the assignments of the level have cites, and the rows that were added for it and for longer ones are supported
 pub record IsBrought (f : Framed) (problem : Problem) (first : List Cite) (before : TableIs) (level : ℕ) (cites : List Cite) (after : TableIs) : Type 0 where
@@ -34,6 +35,7 @@ pub record IsBrought (f : Framed) (problem : Problem) (first : List Cite) (befor
   pub cited : AreCited f (in_slots (all_rows after)) level (cube_count f level) cites
   pub board : after.board ≡ before.board
   pub added : AreAddedFrom f problem.depth level after.added
+  pub ranks : HaveRanksFrom (length before.board) after.added
   pub same : problem.depth ≡ 0 → cites ≡ first
 
 -- the first c assignments of the level have cites, and those of one position more still have
@@ -55,7 +57,7 @@ shortened_none f level longer t rows cited = record {
 -- cites stay right where rows are added
 kept_right : (f : Framed) (level c : ℕ) (t after : TableIs) (a : List ℕ) (cite : Cite) → HasAdded f level c t after → IsRight f (in_slots (all_rows t)) a (Refuted cite) → IsRight f (in_slots (all_rows after)) a (Refuted cite)
 kept_right f level c t after a cite (inl same) right = subst (λ (x : TableIs). IsRight f (in_slots (all_rows x)) a (Refuted cite)) (sym same) right
-kept_right f level c t after a cite (inr (row, is, at)) right =
+kept_right f level c t after a cite (inr (row, is, at, rank)) right =
     subst (λ (x : TableIs). IsRight f (in_slots (all_rows x)) a (Refuted cite)) (sym is)
     (subst (λ (rows : List (Option Row)). IsRight f (in_slots rows) a (Refuted cite)) (sym (all_rows-push t row)) (right_more f (in_slots (all_rows t)) (in_slots (all_rows t ++ Some row ∷ [])) a cite (in_more (all_rows t) (Some row)) right))
 
@@ -169,6 +171,7 @@ module _ (f : Framed) (problem : Problem) (first : List Cite) (before : TableIs)
     cited = cited;
     board = refl;
     added = subst (AreAddedFrom f problem.depth problem.depth) (sym none) (added_at_first f problem.depth);
+    ranks = subst (HaveRanksFrom (length before.board)) (sym none) (ranks_none (length before.board));
     same = λ flat. refl;
   }
 
@@ -177,12 +180,17 @@ module _ (f : Framed) (problem : Problem) (first : List Cite) (before : TableIs)
       → HaveAdded f (level - 1) (cube_count f (level - 1)) t after → IsBrought f problem first before (level - 1) shorter after
   brought_more level cites shorter t after frame some brought supported cited added =
       let low = brought.low in
-      let is : level ≡ suc (level - 1) = omega arith in record {
+      let is : level ≡ suc (level - 1) = omega arith in
+      let long = length-all_rows t in
+      let board : length t.board ≡ length before.board = ap length brought.board in
+      let start : length (all_rows t) ≡ length before.board + length t.added = omega arith in record {
         low = omega arith;
         rows = supported;
         cited = cited;
         board = ap (λ (x : TableIs). x.board) added.is ∙ brought.board;
         added = added_level f problem.depth (level - 1) t after frame (omega arith) (depth_is f problem of).1 (subst (λ (i : ℕ). AreAddedFrom f problem.depth i t.added) is brought.added) added;
+        ranks = subst (HaveRanksFrom (length before.board)) (sym (ap (λ (x : TableIs). x.added) added.is))
+            (ranks_append (length before.board) t.added added.more brought.ranks (subst (λ (n : ℕ). HaveRanksFrom n added.more) start added.ranks));
         same = λ flat. absurd (omega arith);
       }
 

@@ -63,9 +63,8 @@ fn see(table: &Table<'_>, slots: &[(u32, u32)], at: usize, end: u32, marks: &mut
     if !marks[slot as usize] {
         return;
     }
-    match table.row(slot) {
-        None => {}
-        Some(row) => mark_cited(&row, marks),
+    if let Some(row) = table.row(slot) {
+        mark_cited(&row, marks);
     }
 }
 
@@ -98,12 +97,8 @@ fn marked(alloc: Global, slots: &[(u32, u32)], marks: &[bool]) -> Result<Vec<u32
     let mut kept = Vec::new(alloc);
     for place in slots {
         let slot = place.1;
-        if !marks[slot as usize] {
-            continue;
-        }
-        match kept.push(slot) {
-            Err(e) => return Err(AllocError::from(e)),
-            Ok(()) => {}
+        if marks[slot as usize] {
+            kept.push(slot)?;
         }
     }
     Ok(kept)

@@ -26,12 +26,8 @@ fn slots_with_rows(alloc: Global, table: &Table<'_>) -> Result<Vec<(u32, u32)>, 
 {
     let mut slots = Vec::new(alloc);
     for slot in 0..table.len() {
-        match table.row(slot) {
-            None => {}
-            Some(row) => match slots.push((row.rank, slot)) {
-                Err(e) => return Err(AllocError::from(e)),
-                Ok(()) => {}
-            },
+        if let Some(row) = table.row(slot) {
+            slots.push((row.rank, slot))?;
         }
     }
     Ok(slots)

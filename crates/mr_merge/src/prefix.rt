@@ -9,6 +9,7 @@ ghost use Rattle.mr_exchange.specs.declared.answer.CubeAnswer.TheVariants.{Refut
 ghost use Rattle.mr_exchange.specs.Cubes.{IsProblemOf, cube_at, cube_count};
 ghost use Rattle.mr_exchange.specs.Right.{IsRight};
 ghost use Rattle.mr_merge.specs.Table.{all_rows};
+ghost use Rattle.mr_merge.specs.Prefixes.{HaveRanksFrom};
 ghost use Rattle.mr_merge.specs.Private.Table.{AreSupported};
 ghost use Rattle.mr_merge.specs.Private.Prefixes.{AreCited, AreAddedFrom, HaveAdded, HasAdded};
 
@@ -37,6 +38,7 @@ pub(crate) fn end_of(
     ensures rows { OnOk result (AreSupported frame.now (all_rows table.new)) }
     ensures board { OnOk result (table.new.board ≡ table.old.board) }
     ensures added { OnOk result (AreAddedFrom frame.now problem.depth 0 table.new.added) }
+    ensures ranks { OnOk result (HaveRanksFrom (length table.old.board) table.new.added) }
     ensures first { problem.depth ≡ 0 → IfOk result (λ end. end ≡ slice_index_or cites.items 0 Cite.Nothing) }
 {
     // The clauses of `basis` say that it is a frame.

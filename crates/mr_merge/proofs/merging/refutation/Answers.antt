@@ -1,5 +1,5 @@
 -- the log of what the cubes' cites are brought to
-use Rattle.std.proofs.Common.{◌≡◌, ◌∙◌, ◌≤◌, ◌+◌, List, [], length, map, get_or, sym, ap, subst, arith, append-nil}
+use Rattle.std.proofs.Common.{◌≡◌, ◌∙◌, ◌≤◌, ◌+◌, ℕ, List, [], length, map, get_or, sym, ap, subst, arith, append-nil}
 use Rattle.std.proofs.lemmas.Result.{IfOk-weaker}
 use Rattle.mr_nogood.specs.declared.row.Cite.{Cite}
 use Rattle.mr_nogood.specs.declared.row.Cite.TheVariants.{Nothing, Test}
@@ -12,6 +12,7 @@ use Rattle.mr_merge.specs.Private.Answers.{cite_of}
 use Rattle.mr_merge.specs.Table.{TableIs, all_rows}
 use Rattle.mr_merge.specs.Private.Table.{AreSupported}
 use Rattle.mr_merge.specs.Steps.{AreStepsTo}
+use Rattle.mr_merge.specs.Prefixes.{HaveRanksFrom}
 use Rattle.mr_merge.specs.Private.Prefixes.{AreCited}
 use Rattle.mr_merge.specs.Merged.{IsMadeOf}
 use Rattle.mr_merge.proofs.Boards.{board_supported, cubes_cited, few_slots, fit_log, made_of, steps_to_set}
@@ -39,8 +40,10 @@ log_to-requires-clause-few c =
 pub returns-clause-made : goal.returns-clause-made
 returns-clause-made c =
     let board = c.in_ok-end.ensures.board ∙ ap (λ (t : TableIs). t.board) c.of-table.ensures in
+    let slots : length c.of-table.result.board ≡ length c.args.closed.now.rows = ap (λ (t : TableIs). length t.board) c.of-table.ensures in
+    let ranks = subst (λ (n : ℕ). HaveRanksFrom n c.end_of.new.table.added) slots c.in_ok-end.ensures.ranks in
     IfOk-weaker c.log_to.result _ (IsMadeOf c.args.frame.now c.args.problem c.args.closed.now.rows)
-    (λ l made. made_of c.args.frame.now c.args.problem c.args.closed.now c.requires.frame c.requires.problem c.opened-opened.ensures.shown c.end_of.new.table board c.in_ok-end.ensures.added c.in_ok-end.end l made) c.log_to.ensures.steps
+    (λ l made. made_of c.args.frame.now c.args.problem c.args.closed.now c.requires.frame c.requires.problem c.opened-opened.ensures.shown c.end_of.new.table board c.in_ok-end.ensures.added ranks c.in_ok-end.end l made) c.log_to.ensures.steps
 
 pub returns-clause-steps : goal.returns-clause-steps
 returns-clause-steps c =
