@@ -14,7 +14,6 @@ pub mod Holdings
 pub mod Closing
 pub mod OneBoard
 pub mod Looks
-pub mod Trying
 pub mod CubesInOrder
 pub mod Digits
 pub mod Holding

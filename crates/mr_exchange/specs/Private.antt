@@ -1,6 +1,5 @@
 -- Definitions that private contracts and proofs use, and no public contract.
 pub mod Plain
-pub mod Trial
 pub mod Held
 pub mod Deciding
 pub mod Packed

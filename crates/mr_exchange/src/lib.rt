@@ -3,8 +3,6 @@
 
 mod answer;
 mod board;
-#[cfg(test)]
-mod board_tests;
 mod closed;
 mod cube;
 mod event;
@@ -18,8 +16,6 @@ mod problem;
 mod replaying;
 mod slots;
 mod state;
-#[cfg(test)]
-mod tests;
 mod ticket;
 
 pub use answer::{AnswerList, CubeAnswer, SlotList};

@@ -5,4 +5,3 @@ pub mod Order
 pub mod Marks
 pub mod Prefixes
 pub mod Merged
-pub mod Trial

@@ -5,8 +5,6 @@ mod index;
 mod lists;
 mod number;
 mod pair;
-#[cfg(test)]
-mod tests;
 mod tests_at;
 mod trie;
 

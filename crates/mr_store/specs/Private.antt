@@ -1,4 +1,3 @@
 -- Definitions that private contracts and proofs use, and no public contract.
 pub mod Laying
 pub mod Cards
-pub mod Trial

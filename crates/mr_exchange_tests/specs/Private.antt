@@ -1,0 +1,3 @@
+-- What the tests keep of passes and stores.
+pub mod Boards
+pub mod Stores

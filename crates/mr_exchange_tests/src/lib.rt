@@ -1,0 +1,13 @@
+//! The tests of the exchange and of the store that threads share.
+#![tactic(auto)]
+
+#[cfg(test)]
+mod board_tests;
+#[cfg(test)]
+mod exchange_tests;
+#[cfg(test)]
+mod looking_tests;
+#[cfg(test)]
+mod racing_tests;
+#[cfg(test)]
+mod store_tests;

@@ -1,0 +1,2 @@
+-- What the tests keep of the answers of cubes.
+pub mod Answered
