@@ -1,9 +1,23 @@
-// Budgets around the number of nodes that suffices, and matroids at the ends of the range.
+// The limits, budgets around the number of nodes that suffices, and matroids at the ends of the range.
 use crate::tests::{SIX_POINTS, SIX_POINTS_OVER_4, VAMOS, ends_with, run_of};
+use crate::{DEFAULT_NODES, LOG_BYTES, PLANE_ORDER};
+use mr_exchange::{NODES, PASSES, SPLIT};
+use mr_file::FILE_BYTES;
+use mr_log::STEPS;
+use mr_merge::PREFIXES;
+use mr_set::{ELEMENTS, SETS};
 use std::alloc::Global;
 use std::sync::Wait;
 use std::test::Fail;
 use std::thread::Threads;
+
+#[test]
+fn limits_are_those_of_the_formats(rt: HostRuntime) {
+    assert!(rt; ELEMENTS == 32 && SETS == 5000 && FILE_BYTES == 1_048_576);
+    assert!(rt; STEPS == 1_000_000 && LOG_BYTES == 268_435_456);
+    assert!(rt; PASSES == 64 && NODES == 200_000 && DEFAULT_NODES == 20_000);
+    assert!(rt; SPLIT == 4 && PREFIXES == 1 + 8 + 64 + 512 && PLANE_ORDER == 5);
+}
 
 // So many assignments of the first free positions, from the depth of a split on, let no set fail: of the six points, over four elements,
 // and of the matroid of Vámos. A search with that many nodes isn't stopped.

@@ -44,6 +44,10 @@ record Turned (store : StoreIs) (n : ℕ) (new : List Desk) : Type 0 where
   pub done : All (IsDoneDesk store) others
   pub first : HasCard (λ card. IsDoneCard store last card × IsFirstMark n (mark_of card)) last.card
 
+-- with one desk more before them
+turned_more : (store : StoreIs) (n : ℕ) (x : Desk) (xs : List Desk) → IsDoneDesk store x → Turned store n xs → Turned store n (x ∷ xs)
+turned_more store n x xs here rest = record { others = x ∷ rest.others; last = rest.last; is = ap (λ l. x ∷ l) rest.is; done = all_cons (IsDoneDesk store) x rest.others here rest.done; first = rest.first }
+
 -- so they are
 turned : (store : StoreIs) (n : ℕ) (others new : List Desk) (first : Desk) → All (IsOtherDesk store) others → HasCard (λ card. IsNewCard store card × IsFirstMark n (mark_of card)) first.card
     → length new ≡ suc (length others) → ((i : ℕ) (d : Desk) → i < suc (length others) → IsServed (get_or (others ++ first ∷ []) i d) (get_or new i d)) → Turned store n new
@@ -52,25 +56,28 @@ turned store n [] (x ∷ []) first a f len s = record { others = []; last = x; i
 turned store n [] (x ∷ y ∷ ys) first a f len s = absurd (omega arith)
 turned store n (o ∷ os) [] first a f len s = absurd (omega arith)
 turned store n (o ∷ os) (x ∷ xs) first a f len s =
-    let rest = turned store n os xs first (λ k d lt. a (suc k) d (omega arith)) f (omega arith) (λ i d lt. s (suc i) d (omega arith)) in
     let new = has_map (λ card. IsNewCard store card × ((mark_of card).number ≢ 0) × ((mark_of card).number ≡ o.worker)) (λ card. IsNewCard store card × ((mark_of card).number ≢ 0)) o.card (λ card p. (p.0, p.1)) (a 0 x (omega arith)).0 in
     let here : IsDoneDesk store x = served_done (λ (m : Mark). m.number ≢ 0) store o.card x new (s 0 x (omega arith)) in
-    record { others = x ∷ rest.others; last = rest.last; is = ap (λ l. x ∷ l) rest.is; done = all_cons (IsDoneDesk store) x rest.others here rest.done; first = rest.first }
+    turned_more store n x xs here (turned store n os xs first (λ k d lt. a (suc k) d (omega arith)) f (omega arith) (λ i d lt. s (suc i) d (omega arith)))
+
+-- desks after their turns, each with a pass of the store
+turned_done : (store : StoreIs) (n : ℕ) (new : List Desk) → n ≡ length new → Turned store n new → AreDone store new
+turned_done store n new len t = record {
+  others = t.others;
+  last = t.last;
+  is = t.is;
+  done = t.done;
+  first = has_map (λ card. IsDoneCard store t.last card × IsFirstMark n (mark_of card)) (λ card. IsDoneCard store t.last card × ((mark_of card).number ≡ 0)) t.last.card (λ card p. (p.0, p.1.number)) t.first;
+  made = has_map (λ card. IsDoneCard store t.last card × IsFirstMark n (mark_of card)) (λ card. (mark_of card).made ≡ length new) t.last.card (λ card p. p.1.made ∙ len) t.first;
+}
 
 -- all desks after their turns
 pub all_done : (store : StoreIs) (old new : List Desk) → AreNew store old → length new ≡ length old → ((i : ℕ) (d : Desk) → i < length old → IsServed (get_or old i d) (get_or new i d)) → AreDone store new
 all_done store old new h len s =
     let long : length old ≡ suc (length h.others) = ap length h.is ∙ (let a = length-append h.others (h.last ∷ []) in omega arith) in
-    let t = turned store (length old) h.others new h.last h.new
+    turned_done store (length old) new (sym len) (turned store (length old) h.others new h.last h.new
     (has_map (λ card. IsNewCard store card × ((mark_of card).number ≡ 0) × ((mark_of card).made ≡ length old) × ((mark_of card).number ≡ h.last.worker)) (λ card. IsNewCard store card × IsFirstMark (length old) (mark_of card)) h.last.card (λ card p. (p.0, record { number = p.1; made = p.2 })) h.first)
-    (len ∙ long) (λ i d lt. subst (λ l. IsServed (get_or l i d) (get_or new i d)) h.is (s i d (omega arith))) in record {
-      others = t.others;
-      last = t.last;
-      is = t.is;
-      done = t.done;
-      first = has_map (λ card. IsDoneCard store t.last card × IsFirstMark (length old) (mark_of card)) (λ card. IsDoneCard store t.last card × ((mark_of card).number ≡ 0)) t.last.card (λ card p. (p.0, p.1.number)) t.first;
-      made = has_map (λ card. IsDoneCard store t.last card × IsFirstMark (length old) (mark_of card)) (λ card. (mark_of card).made ≡ length new) t.last.card (λ card p. p.1.made ∙ sym len) t.first;
-    }
+    (len ∙ long) (λ i d lt. subst (λ l. IsServed (get_or l i d) (get_or new i d)) h.is (s i d (omega arith))))
 
 -- each desk has a new card
 can_all : (store : StoreIs) (others : List Desk) (last : Desk) → All (IsOtherDesk store) others → IsNewDesk store last → All (IsNewDesk store) (others ++ last ∷ [])

@@ -64,13 +64,11 @@ fn search_claimed<B: Board>(
 {
     let problem = board.problem();
     let node = cube_at(board.frame(), problem.depth, cube);
-    match board.frame().first_failing(&node) {
-        Some(x) => return Ok(CubeAnswer::Refuted(Cite::Test(x))),
-        None => {}
+    if let Some(x) = board.frame().first_failing(&node) {
+        return Ok(CubeAnswer::Refuted(Cite::Test(x)));
     }
-    match index.inside(&node) {
-        Some(slot) => return Ok(CubeAnswer::Refuted(Cite::Slot(slot))),
-        None => {}
+    if let Some(slot) = index.inside(&node) {
+        return Ok(CubeAnswer::Refuted(Cite::Slot(slot)));
     }
     let mut found = AssignList::new(alloc);
     match search_node(board, index, &node, problem.depth, &mut found)? {

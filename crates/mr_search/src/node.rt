@@ -34,9 +34,8 @@ pub(crate) fn search_node<B: Board>(
     ensures mark { B.mark board.new ≡ B.mark board.old }
 {
     let opening = open(board, index, node, p)?;
-    match inside_now(index, node, p, opening.learnt) {
-        Some(slot) => return Ok(Outcome::Excluded(Cite::Slot(slot))),
-        None => {}
+    if let Some(slot) = inside_now(index, node, p, opening.learnt) {
+        return Ok(Outcome::Excluded(Cite::Slot(slot)));
     }
     if p == board.frame().free() {
         found.push(*node)?;
@@ -105,9 +104,8 @@ fn search_value<B: Board>(
     ensures stop { let h = B.holding board.old in IfErr result (Stopped h.frame h (B.holding board.new) (slice_set node.now p v) (p + 1)) }
     ensures mark { B.mark board.new ≡ B.mark board.old }
 {
-    match index.excluded_by(board.frame(), node, p, v, first) {
-        Some(cite) => return Ok(Step::Excluded(cite)),
-        None => {}
+    if let Some(cite) = index.excluded_by(board.frame(), node, p, v, first) {
+        return Ok(Step::Excluded(cite));
     }
     // The clauses of `free` and of `words` say how many positions there are.
     let _free = board.frame().free();

@@ -77,7 +77,7 @@ pub search_node-search_values-requires : goal.search_node-search_values-requires
 search_node-search_values-requires g t c κs within =
     let before = g.B.Board.holding c.args.board.now in
     let mid = g.B.Board.holding c.open.new.board in
-    let can = can_opened before mid c.args.index.now c.open.new.index c.args.node.now c.args.p c.in_ok-opening.opening.ticket c.requires c.in_ok-opening.ensures.ok (c.in-None.ensures.none.0 refl) in
+    let can = can_opened before mid c.args.index.now c.open.new.index c.args.node.now c.args.p c.in_ok-opening.opening.ticket c.requires c.in_ok-opening.ensures.ok (c.in_default.ensures.none.0 refl) in
     let free = next_place mid.frame c.args.node.now c.args.p can.values (λ same. c.if-p-free.false (same ∙ ap (λ (f : Framed). length f.places) (sym c.frame.ensures.frame) ∙ sym c.free.ensures.value)) in
     search (rules, can, free)
 
@@ -201,7 +201,7 @@ search_value-search_node-requires g t c κs within =
     let h = g.B.Board.holding c.args.board.now in
     let few = few_positions h c.args.index.now c.args.node.now c.args.p c.requires.can c.requires.position in
     let can = child_can h c.args.index.now c.args.node.now c.args.p c.args.v c.requires.can c.requires.position c.requires.low c.requires.high c.with-child.result c.with-child.ensures c.words-words.ensures.assign
-    (subst (λ f. IsOpenAt f (in_slots c.args.index.now) c.args.node.now c.args.p c.args.v) c.frame.ensures.frame (c.in-None.ensures.none.0 refl)) in
+    (subst (λ f. IsOpenAt f (in_slots c.args.index.now) c.args.node.now c.args.p c.args.v) c.frame.ensures.frame (c.in_default.ensures.none.0 refl)) in
     search (rules, can, few)
 
 pub search_value-returns-in_err-search_node-clause-ok : goal.search_value-returns-in_err-search_node-clause-ok
@@ -236,15 +236,15 @@ search_value-returns-in-Some-inside_below-clause-ok g t c =
 pub search_value-returns-in-Some-inside_below-clause-mark : goal.search_value-returns-in-Some-inside_below-clause-mark
 search_value-returns-in-Some-inside_below-clause-mark g t c = c.in_ok-search_node.ensures.mark
 
-pub search_value-returns-in-None-inside_below-clause-ok : goal.search_value-returns-in-None-inside_below-clause-ok
-search_value-returns-in-None-inside_below-clause-ok g t c =
+pub search_value-returns-in-None-clause-ok : goal.search_value-returns-in-None-clause-ok
+search_value-returns-in-None-clause-ok g t c =
     let h = g.B.Board.holding c.args.board.now in
     let after = g.B.Board.holding c.search_node.new.board in
     let answered = subst (λ a. Answered h.frame h after c.search_node.new.index a (c.args.p + 1) c.args.found.now c.search_node.new.found (Excluded c.in-Excluded.cite)) c.with-child.ensures (rw c.in-Excluded.is at c.in_ok-search_node.ensures.ok) in
-    (answered, nothing_known c.search_node.new.index after c.args.node.now answered.stands.ready.learnt (c.in-None-inside_below.ensures.none.0 refl))
+    (answered, nothing_known c.search_node.new.index after c.args.node.now answered.stands.ready.learnt (c.in-None.ensures.none.0 refl))
 
-pub search_value-returns-in-None-inside_below-clause-mark : goal.search_value-returns-in-None-inside_below-clause-mark
-search_value-returns-in-None-inside_below-clause-mark g t c = c.in_ok-search_node.ensures.mark
+pub search_value-returns-in-None-clause-mark : goal.search_value-returns-in-None-clause-mark
+search_value-returns-in-None-clause-mark g t c = c.in_ok-search_node.ensures.mark
 
 pub search_value-inside_after-requires-clause-nothing : goal.search_value-inside_after-requires-clause-nothing
 search_value-inside_after-requires-clause-nothing g t c =
