@@ -48,11 +48,11 @@ part ws vs a b isa isb agrees = (
   λ h. refl,
 )
 
--- the value of a position in the map_union of two maps
+-- the value of a position in the union of two maps
 abbrev pub either : ℕ → ℕ → ℕ
 either x y = if x == 0 then y else x
 
--- the map_union is made position by position
+-- the union is made position by position
 pub get_or-union : (a b : List ℕ) (p : ℕ) → length a ≡ length b → get_or (map_union a b) p 0 ≡ either (get_or a p 0) (get_or b p 0)
 get_or-union [] [] p same = refl
 get_or-union [] (y ∷ b) p same = absurd (omega arith)
@@ -129,7 +129,7 @@ joined_without ws vs both p h lt none = record {
   above = λ k le inside. h.above k (omega arith) inside;
 }
 
--- after the last position the join is the map_union
+-- after the last position the join is the union
 pub joined_all : (ws vs a b both : List ℕ) → nibbles ws ≡ a → nibbles vs ≡ b → IsJoined ws vs both POSITIONS → both ≡ map_union a b
 joined_all ws vs a b both isa isb h =
     let na : length a ≡ POSITIONS = sym (ap length isa) ∙ length-nibbles ws in

@@ -9,7 +9,7 @@ use Rattle.std.proofs.Math.Nat.{mod-eq_of_lt}
 use Rattle.mr_assign.specs.declared.TheConstants.{POSITIONS, CLAUSE_WORDS, VALUES}
 use Rattle.mr_assign.specs.Packing.{nibble, nibble_at, nibbles, packed_values, map_words}
 use Rattle.mr_assign.specs.Private.Packing.{IsPacking}
-use Rattle.mr_assign.specs.Private.Again.{packed-same, packed-nibble, place, length-nibbles, get_or-nibbles, get_or-words_of}
+use Rattle.mr_assign.specs.Private.Again.{packed-same, packed-nibble, place, length-nibbles, get_or-nibbles, get_or-map_words}
 use Rattle.mr_assign.specs.Private.Words.{nonzero, HasValues}
 use Rattle.mr_assign.specs.Assign.{IsAssign, IsPartOf}
 use Rattle.mr_assign.proofs.Maps.{AgreesBelow, value-view}
@@ -38,7 +38,7 @@ nibble-low w n k lt =
     let cut : w % 2 ^ (4 * n) % 2 ^ (4 + 4 * k) ≡ w % 2 ^ (4 + 4 * k) = ap (λ m. w % 2 ^ m % 2 ^ (4 + 4 * k)) e ∙ mod-mod-pow w j (4 + 4 * k) in
     sym (field_of w 4 (4 * k)) ∙ ap (λ m. m / 2 ^ (4 * k)) (sym cut) ∙ field_of (w % 2 ^ (4 * n)) 4 (4 * k)
 
--- the nibbles of a packed_values word are those that were packed_values
+-- the nibbles of a packed word are those that were packed
 pub nibble-packed : (n : ℕ) (f : ℕ → ℕ) → ((k : ℕ) → k < n → f k < 16) → (k : ℕ) → k < n → nibble (packed_values n f) k ≡ f k
 unfolding packed_values
 nibble-packed zero f small k lt = absurd (omega arith)
@@ -50,7 +50,7 @@ nibble-packed (suc n) f small k lt =
     ap (nibble (f n * 2 ^ (4 * n) + packed_values n f)) is ∙ ap (λ m. m % 16) (shr_high (f n) (4 * n) (packed_values n f) low) ∙ mod-eq_of_lt (small n (omega arith)) ∙ ap f (sym is))
     (cases_lt k n)
 
--- packed_values words are added nibble by nibble
+-- packed words are added nibble by nibble
 packed-add : (n : ℕ) (f g : ℕ → ℕ) → packed_values n f + packed_values n g ≡ packed_values n (λ k. f k + g k)
 unfolding packed_values
 packed-add zero f g = refl
@@ -68,7 +68,7 @@ packed-mul (suc n) c f = let rest = packed-mul n c f in regroup (f n) (2 ^ (4 * 
     regroup : (a p x c z : ℕ) → x * c ≡ z → (a * p + x) * c ≡ (a * c) * p + z
     regroup a p x c z e = grind arith
 
--- a word is its nibbles, packed_values
+-- a word is its nibbles, packed
 pub packed_word : (w : ℕ) → w < 2 ^ 64 → packed_values 16 (nibble w) ≡ w
 packed_word w small = packed-nibble 16 w ∙ mod-eq_of_lt small
 
@@ -199,8 +199,8 @@ disagrees ws vs a b i m isa isb hw hv lt mask differs = (
 )
 
 -- a map comes back from its words
-pub nibbles-words_of : (a : List ℕ) → IsAssign a → nibbles (map_words a) ≡ a
-nibbles-words_of a h = ext_get_or 0 (nibbles (map_words a)) a (length-nibbles (map_words a) ∙ sym h.positions) (λ p lt.
+pub nibbles-map_words : (a : List ℕ) → IsAssign a → nibbles (map_words a) ≡ a
+nibbles-map_words a h = ext_get_or 0 (nibbles (map_words a)) a (length-nibbles (map_words a) ∙ sym h.positions) (λ p lt.
     let inside : p < POSITIONS = let n = length-nibbles (map_words a) in omega arith in
     let i : ℕ = p / 16 in
     let k : ℕ = p % 16 in
@@ -208,6 +208,6 @@ nibbles-words_of a h = ext_get_or 0 (nibbles (map_words a)) a (length-nibbles (m
     let small : (j : ℕ) → j < 16 → get_or a (16 * i + j) 0 < 16 =
     λ j l. let n = h.positions in let v : get_or a (16 * i + j) 0 ≤ VALUES = h.values (16 * i + j) 0 (omega arith) in omega arith in
     get_or-nibbles (map_words a) p inside
-    ∙ ap (λ w. nibble w k) (get_or-words_of a i (omega arith))
+    ∙ ap (λ w. nibble w k) (get_or-map_words a i (omega arith))
     ∙ nibble-packed 16 (λ j. get_or a (16 * i + j) 0) small k (omega arith)
     ∙ ap (λ q. get_or a q 0) is)

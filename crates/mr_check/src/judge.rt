@@ -16,7 +16,7 @@ pub(crate) fn judge(alloc: Global, log: Log, field: Field) -> Result<Accepted, C
     requires { IsLog log }
     ensures { MatchResult result (λ a. IsRefutation field log × (a.steps ≡ length log.steps)) (IsFaulty field log) }
 {
-    // The lines of the head, and of the matroid's file.
+    // The head and the matroid's file have one line less.
     let first_line = 9 + log.matroid.nonbasis_count();
     let frame = Frame::new(alloc, log.matroid, field)?;
     verdict(&frame, log.steps.as_slice(), &log.last, first_line)

@@ -3,7 +3,7 @@ use Rattle.std.proofs.Common.{◌≡◌, ◌≢◌, ℕ, zero, suc, ◌+◌, ◌
 use native.Mathlib.Decide.{ℕ_discrete}
 use Rattle.std.proofs.lemmas.Option.{none-some}
 use Rattle.std.proofs.lemmas.List.{ext_get_or, get_or-take, get_or-drop, length-take, length-map}
-use Rattle.mr_assign.specs.Private.Again.{length-words_of}
+use Rattle.mr_assign.specs.Private.Again.{length-map_words}
 use Rattle.mr_assign.specs.Packing.{map_words}
 use Rattle.mr_nogood.specs.declared.TheConstants.{ROW_WORDS}
 use Rattle.mr_nogood.specs.declared.row.Row.{Row}
@@ -24,7 +24,7 @@ zero_at (suc n) (suc i) = zero_at n i
 pub length-packed : (row : Row) → IsRow row → length (row_packing row) ≡ ROW_WORDS
 length-packed row is =
     let a = length-append (map_words row.clause) (map cite_word row.cites) in
-    let b = length-words_of row.clause in
+    let b = length-map_words row.clause in
     let c = length-map row.cites cite_word in
     let d = is.count in
     omega arith

@@ -46,7 +46,7 @@ pub trait Board {
     fn look(&mut self) -> Look
         requires { (holding self.old).tickets ≢ [] }
         ensures moves { Looked (holding self.old) result (holding self.new) }
-        // The head that was loaded decides.
+        // The head that the pass then holds as its last one decides.
         ensures empty { (result ≡ Look.Empty) ↔ ((holding self.new).last_head ≡ 0) }
         ensures long { (result ≡ Look.Long) ↔ (SHORT < pairs_shown (holding self.new).last_head) }
         ensures mark { mark self.new ≡ mark self.old };

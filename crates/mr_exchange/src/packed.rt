@@ -29,7 +29,7 @@ impl Model for PackedRows {
 }
 
 impl PackedRows {
-    /// So many slots without rows, from zeros for their words, fifteen for each.
+    /// So many slots without rows, from zeros for their words, at least fifteen for each.
     pub fn of_zeros(words: Vec<u64>, slots: u32) -> PackedRows
         requires zeros { words.items ≡ replicate (length words.items) 0 }
         requires size { ROW_WORDS * slots ≤ length words.items }

@@ -4,7 +4,8 @@ ghost use Rattle.mr_linear.specs.Operations.{IsAllowedOperation};
 use crate::{Matrix, RowOp};
 
 impl Matrix {
-    /// Whether the operation is one on the matrix: its places are in range, and its element is one of the field.
+    /// Whether the operation is one on the matrix: its places are in range, two rows of an addition are different ones, and its
+    /// element is one of the field, not zero where it scales.
     pub fn allows(&self, op: RowOp) -> bool
         ensures { IsTrue result ↔ IsAllowedOperation self.now op }
     {

@@ -40,9 +40,8 @@ pub fn part_values(
             return pair_values(field, full, row, column, k, j);
         }
     }
-    match triple_part(field, full, rows, cols, in_rows, x, row, column) {
-        Some(values) => return values,
-        None => {}
+    if let Some(values) = triple_part(field, full, rows, cols, in_rows, x, row, column) {
+        return values;
     }
     copy_rows(full, copy, rows);
     dependent_values(field, copy, rows, cols, in_rows, x, row, column, spare)

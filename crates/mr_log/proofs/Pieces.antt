@@ -7,7 +7,7 @@ use Rattle.mr_assign.specs.declared.TheConstants.{POSITIONS}
 use Rattle.mr_assign.specs.Assign.{IsAssign}
 use Rattle.mr_assign.specs.Packing.{map_words}
 use Rattle.mr_assign.proofs.Maps.{value-view, no_nibble}
-use Rattle.mr_assign.proofs.Masks.{nibbles-words_of}
+use Rattle.mr_assign.proofs.Masks.{nibbles-map_words}
 use Rattle.mr_text.specs.Text.{text_of_lines}
 use Rattle.mr_text.proofs.Listings.{lines-append}
 use Rattle.mr_file.specs.File.{file_lines, file_text}
@@ -67,7 +67,7 @@ pairs_none a p (suc n) le none =
 pub zero_word : (a : List ℕ) → IsAssign a → (p : ℕ) → p % 16 ≡ 0 → p + 16 ≤ POSITIONS → get_or (map_words a) (p / 16) 0 ≡ 0 → (k : ℕ) → k < 16 → get_or a (p + k) 0 ≡ 0
 zero_word a h p start small none k low =
     let word : (p + k) / 16 ≡ p / 16 = omega arith in
-    sym (value-view (map_words a) a (p + k) (nibbles-words_of a h) (omega arith))
+    sym (value-view (map_words a) a (p + k) (nibbles-map_words a h) (omega arith))
     ∙ no_nibble (map_words a) (p + k) (ap (λ (i : ℕ). get_or (map_words a) i 0) word ∙ none)
 
 -- so it has no pairs

@@ -8,8 +8,6 @@ mod laws;
 mod log;
 mod read;
 mod step;
-#[cfg(test)]
-mod tests;
 mod words;
 mod write;
 

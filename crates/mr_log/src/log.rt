@@ -1,8 +1,8 @@
 use mr_matroid::Matroid;
 use mr_nogood::{Cite, RowList};
 
-/// A refutation of a matroid over the field with `q` elements: steps, each of which follows from earlier ones, and
-/// what the last of them shows.
+/// What a text says of a refutation of a matroid over the field with `q` elements: steps, and an end. Whether the steps follow
+/// isn't said.
 #[derive(Drop)]
 pub struct Log {
     pub matroid: Matroid,

@@ -22,7 +22,7 @@ pub fn matrices_have_matroids()
     ensures { MatricesHaveMatroids }
 {}
 
-/// A matrix has one matroid.
+/// A matrix has at most one matroid.
 pub fn there_is_one_matroid()
     ensures { OneMatroid }
 {}
@@ -42,12 +42,12 @@ pub fn planes_have_full_rank()
     ensures { PlanesHaveFullRank }
 {}
 
-/// A text is the block of one matrix.
+/// A text is the block of at most one matrix.
 pub fn there_is_one_block()
     ensures { OneBlock }
 {}
 
-/// A text is refused for one cause.
+/// A text is refused for at most one cause.
 pub fn there_is_one_refusal()
     ensures { OneMatrixRefusal }
 {}
@@ -57,7 +57,7 @@ pub fn blocks_are_not_refused()
     ensures { BlocksAreNotRefused }
 {}
 
-/// A text is that of one pair.
+/// A text is that of at most one pair.
 pub fn there_is_one_pair()
     ensures { OnePair }
 {}

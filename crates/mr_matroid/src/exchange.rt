@@ -16,9 +16,8 @@ pub fn first_failure(table: &SetTable) -> Option<(Set, Set, u32)>
 {
     let bases = table.unlisted();
     for b1 in bases {
-        match first_second(table, *b1) {
-            Some(found) => return Some((*b1, found.0, found.1)),
-            None => {}
+        if let Some(found) = first_second(table, *b1) {
+            return Some((*b1, found.0, found.1));
         }
     }
     None

@@ -14,7 +14,7 @@ use Rattle.mr_nogood.specs.declared.row.Cite.{Cite}
 use Rattle.mr_nogood.specs.declared.row.Cite.TheVariants.{Nothing, Test, Slot}
 use Rattle.mr_nogood.specs.declared.row.Row.{Row}
 
--- a row that is cited_row is one that a cite rests on just where its clause is a part of the assignment
+-- a row that is cited is one that a cite rests on just where its clause is a part of the assignment
 pub by_row : (f : Framed) (found : Option Row) (r : Row) (rank : ℕ) (a : List ℕ) (s : ℕ) (b : Bool) → found ≡ Some r → r.rank < rank → (IsTrue b ↔ IsPartOf r.clause a) → IsTrue b ↔ HoldsBy f found rank a (Slot s)
 by_row f found r rank a s b is less iff = (
   λ yes. (r, is, less, iff.0 yes),

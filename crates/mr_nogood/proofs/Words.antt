@@ -15,9 +15,9 @@ use Rattle.mr_set.proofs.Bits.{with_bit}
 use Rattle.mr_set.proofs.Sorted.{all_head, all_tail, all_above, sorted_parts, with_front}
 use Rattle.mr_assign.specs.Assign.{IsAssign}
 use Rattle.mr_assign.specs.Packing.{nibbles, map_words}
-use Rattle.mr_assign.specs.Private.Again.{length-words_of}
+use Rattle.mr_assign.specs.Private.Again.{length-map_words}
 use Rattle.mr_assign.specs.declared.TheConstants.{CLAUSE_WORDS, VALUES}
-use Rattle.mr_assign.proofs.Masks.{nibbles-words_of}
+use Rattle.mr_assign.proofs.Masks.{nibbles-map_words}
 use Rattle.mr_nogood.specs.declared.TheConstants.{ROW_WORDS}
 use Rattle.mr_nogood.specs.Row.{cite_for, IsCite, IsRow}
 use Rattle.mr_nogood.specs.Packing.{head_of, cite_word, row_packing}
@@ -103,13 +103,13 @@ head-at count at rank small low = omega arith
 pub unpacked-packed : (row : Row) → IsRow row → unpacked (row_packing row) ≡ row
 unfolding unpacked
 unpacked-packed row is =
-    let size = length-words_of row.clause in
+    let size = length-map_words row.clause in
     let cs : List ℕ = map cite_word row.cites in
     let count : ℕ = count_by (λ v. nat_lt 0 v) row.clause in
     same_rows (unpacked (row_packing row)) row
     (head-rank count row.at row.rank is.rank)
     (head-at count row.at row.rank is.rank is.at)
-    (ap nibbles (clause_words (head_of row) (map_words row.clause) cs size) ∙ nibbles-words_of row.clause is.clause)
+    (ap nibbles (clause_words (head_of row) (map_words row.clause) cs size) ∙ nibbles-map_words row.clause is.clause)
     (ap (map cite_of) (cite_words (head_of row) (map_words row.clause) cs size) ∙ cites_back row.cites is.cites)
 
 -- so rows have words of their own
@@ -125,7 +125,7 @@ pub record IsPackedTo (row : Row) (words : List ℕ) (k : ℕ) : Type 0 where
 -- the head and the clause are written first
 pub packed_none : (row : Row) (h : ℕ) (ws ys : List ℕ) → h ≡ head_of row → ws ≡ map_words row.clause → length ys ≡ VALUES → IsPackedTo row (h ∷ (ws ++ ys)) 0
 packed_none row h ws ys head clause rest =
-    let six : length ws ≡ CLAUSE_WORDS = ap length clause ∙ length-words_of row.clause in
+    let six : length ws ≡ CLAUSE_WORDS = ap length clause ∙ length-map_words row.clause in
     record {
       size = omega (arith, length-append ws ys);
       front = ap (λ t. h ∷ t) (ap (λ n. take n (ws ++ ys)) (sym six) ∙ take-append_seam ws ys) ∙ ap (λ n. n ∷ ws) head ∙ ap (λ t. head_of row ∷ t) clause;

@@ -10,7 +10,7 @@ use crate::{Cite, ROW_CITES, ROW_WORDS, Row};
 use mr_assign::{Assign, CLAUSE_WORDS, VALUES};
 use mr_set::Set;
 
-// The head of a row.
+// The bit that says that there is a row.
 const ROW: u64 = 1 << 63;
 
 // The word of a cite that is a set is this and the set's mask.

@@ -24,7 +24,7 @@ pub struct Row {
     pub cites: [Cite; ROW_CITES],
 }
 
-/// The cite for the value k + 1, which must be one of a field.
+/// The cite for the value k + 1, which is at most `VALUES`.
 pub fn cite_at(row: &Row, k: u8) -> &Cite
     requires { k < VALUES }
     ensures cite { result.now ≡ cite_for row.now k }

@@ -12,7 +12,7 @@ use Rattle.mr_assign.specs.declared.TheConstants.{POSITIONS}
 use Rattle.mr_assign.specs.Assign.{IsAssign}
 use Rattle.mr_assign.specs.Packing.{nibble, map_words}
 use Rattle.mr_assign.proofs.Maps.{value-view, no_nibble}
-use Rattle.mr_assign.proofs.Masks.{nibbles-words_of}
+use Rattle.mr_assign.proofs.Masks.{nibbles-map_words}
 
 -- the greatest bit of a word lies in its greatest nibble that isn't 0
 top_bit : (w j : ℕ) → 2 ^ j ≤ w → w < 2 ^ suc j → (nibble w (j / 4) ≢ 0) × ((k : ℕ) → j / 4 < k → nibble w k ≡ 0)
@@ -50,7 +50,7 @@ value_of_word a h i k low small =
     let word : (16 * i + k) / 16 ≡ i = omega arith in
     let place : (16 * i + k) % 16 ≡ k = omega arith in
     sym (ap (λ (j : ℕ). nibble (get_or (map_words a) j 0) ((16 * i + k) % 16)) word ∙ ap (nibble (get_or (map_words a) i 0)) place)
-    ∙ value-view (map_words a) a (16 * i + k) (nibbles-words_of a h) small
+    ∙ value-view (map_words a) a (16 * i + k) (nibbles-map_words a h) small
 
 -- no position of this word or a later one has a value
 abbrev pub IsEmptyFrom : List ℕ → ℕ → Type 0
@@ -70,7 +70,7 @@ pub zero_word : (a : List ℕ) → IsAssign a → (i : ℕ) → i < 6 → IsEmpt
 zero_word a h i small later none q past = elim (cases_lt q (16 * (i + 1))) [
   | inl inside ↦
       let word : q / 16 ≡ i = omega arith in
-      sym (value-view (map_words a) a q (nibbles-words_of a h) (omega arith))
+      sym (value-view (map_words a) a q (nibbles-map_words a h) (omega arith))
       ∙ no_nibble (map_words a) q (ap (λ (j : ℕ). get_or (map_words a) j 0) word ∙ none)
   | inr outside ↦ later q outside
 ]

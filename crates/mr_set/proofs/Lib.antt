@@ -1,7 +1,6 @@
 pub mod Bits
 pub mod Members
 pub mod Tests
-pub mod Below
 pub mod Sorted
 pub mod Lexicographic
 pub mod Choose

@@ -75,7 +75,7 @@ pub record IsPassOf (s : State) (c : CardIs) : Type 0 where
   pub holding : holding_of s c.seen.pass.number ≡ held_by c
   pub there : (slot : ℕ) (row : Row) → IsThere c slot row → s.rows slot ≡ Some row
 
--- The call was this event of a sound state of the store, with this answer: the pass was as it was before the call, and is as
+-- The call was this event of a sound state of the store's setting, with this answer: the pass was as it was before the call, and is as
 -- the event leaves it. All rows of which it was told stand in that state; they stay told, and the pass learns what the event
 -- tells: the number that it found in the claim word or the ticket word, or the row that it met or published.
 pub record IsEvent (c : CardIs) (e : Event) (answer : Reply) (d : CardIs) : Type 0 where

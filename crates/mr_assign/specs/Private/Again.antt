@@ -10,7 +10,7 @@ use Rattle.mr_assign.specs.declared.assign.Assign.TheInside.{Inside}
 use Rattle.mr_assign.specs.Packing.{nibble, nibble_at, nibbles, packed_values, map_words}
 use Rattle.mr_assign.specs.Private.Packing.{IsPacking}
 
--- numbers that agree below n are packed_values into one word
+-- numbers that agree below n are packed into one word
 pub packed-same : (n : ℕ) (f g : ℕ → ℕ) → ((k : ℕ) → k < n → f k ≡ g k) → packed_values n f ≡ packed_values n g
 unfolding packed_values
 packed-same zero f g same = refl
@@ -19,7 +19,7 @@ packed-same (suc n) f g same =
     let rest : packed_values n f ≡ packed_values n g = packed-same n f g (λ k lt. same k (omega arith)) in
     ap (λ v. v * 2 ^ (4 * n) + packed_values n f) here ∙ ap (λ v. g n * 2 ^ (4 * n) + v) rest
 
--- the nibbles of a word, packed_values, are what stands in its lowest bits
+-- the nibbles of a word, packed, are what stands in its lowest bits
 pub packed-nibble : (n w : ℕ) → packed_values n (nibble w) ≡ w % 2 ^ (4 * n)
 unfolding packed_values
 packed-nibble zero w = omega arith
@@ -37,15 +37,15 @@ pub get_or-nibbles : (words : List ℕ) (p : ℕ) → p < POSITIONS → get_or (
 unfolding nibbles
 get_or-nibbles words p lt = get_or-map-range_with_len (nibble_at words) 0 POSITIONS p p 0 lt (omega arith)
 
--- a word of a map is its sixteen values, packed_values
-pub get_or-words_of : (a : List ℕ) (i : ℕ) → i < CLAUSE_WORDS → get_or (map_words a) i 0 ≡ packed_values 16 (λ k. get_or a (16 * i + k) 0)
+-- a word of a map is its sixteen values, packed
+pub get_or-map_words : (a : List ℕ) (i : ℕ) → i < CLAUSE_WORDS → get_or (map_words a) i 0 ≡ packed_values 16 (λ k. get_or a (16 * i + k) 0)
 unfolding map_words
-get_or-words_of a i lt = get_or-map-range_with_len (λ j. packed_values 16 (λ k. slice_index a (16 * j + k))) 0 CLAUSE_WORDS i i 0 lt (omega arith)
+get_or-map_words a i lt = get_or-map-range_with_len (λ j. packed_values 16 (λ k. slice_index a (16 * j + k))) 0 CLAUSE_WORDS i i 0 lt (omega arith)
 
 -- a map fills all words
-pub length-words_of : (a : List ℕ) → length (map_words a) ≡ CLAUSE_WORDS
+pub length-map_words : (a : List ℕ) → length (map_words a) ≡ CLAUSE_WORDS
 unfolding map_words
-length-words_of a = length-map-range_with_len (λ j. packed_values 16 (λ k. slice_index a (16 * j + k))) 0 CLAUSE_WORDS
+length-map_words a = length-map-range_with_len (λ j. packed_values 16 (λ k. slice_index a (16 * j + k))) 0 CLAUSE_WORDS
 
 -- position k of word i is nibble k of that word
 pub place : (words : List ℕ) (i k : ℕ) → k < 16 → nibble_at words (16 * i + k) ≡ nibble (get_or words i 0) k
@@ -55,13 +55,13 @@ place words i k lt =
     ap (λ j. nibble (get_or words j 0) ((16 * i + k) % 16)) row ∙ ap (nibble (get_or words i 0)) col
 
 -- words come back from their nibbles
-pub words_of-nibbles : (words : List ℕ) → IsPacking words → map_words (nibbles words) ≡ words
-words_of-nibbles words h = ext_get_or 0 (map_words (nibbles words)) words (length-words_of (nibbles words) ∙ sym h.size) (λ i lt.
-    let within : i < CLAUSE_WORDS = let n = length-words_of (nibbles words) in omega arith in
+pub map_words-nibbles : (words : List ℕ) → IsPacking words → map_words (nibbles words) ≡ words
+map_words-nibbles words h = ext_get_or 0 (map_words (nibbles words)) words (length-map_words (nibbles words) ∙ sym h.size) (λ i lt.
+    let within : i < CLAUSE_WORDS = let n = length-map_words (nibbles words) in omega arith in
     let inner : packed_values 16 (λ k. get_or (nibbles words) (16 * i + k) 0) ≡ packed_values 16 (nibble (get_or words i 0)) =
     packed-same 16 _ _ (λ k small. get_or-nibbles words (16 * i + k) (omega arith) ∙ place words i k small) in
     let small : get_or words i 0 < 2 ^ 64 = h.range i in
-    get_or-words_of (nibbles words) i within ∙ inner ∙ packed-nibble 16 (get_or words i 0) ∙ mod-eq_of_lt small)
+    get_or-map_words (nibbles words) i within ∙ inner ∙ packed-nibble 16 (get_or words i 0) ∙ mod-eq_of_lt small)
 
 -- the fields of a map, by its words
 abbrev pub inside : List ℕ → Inside
@@ -69,4 +69,4 @@ inside words = record { words = words }
 
 -- and with them the map itself
 pub words_again : (words : List ℕ) → IsPacking words → inside (map_words (nibbles words)) ≡ inside words
-words_again words h = ap inside (words_of-nibbles words h)
+words_again words h = ap inside (map_words-nibbles words h)

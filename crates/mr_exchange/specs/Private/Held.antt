@@ -1,4 +1,4 @@
--- A state as the program holds it: with the list of what each slot has: words of private contracts and of the proofs.
+-- A state as the program holds it, with the list of what each slot has. Words of private contracts and of the proofs.
 use Rattle.std.specs.Prelude.{◌≡◌, ◌≤◌, length}
 use Rattle.mr_exchange.specs.declared.TheConstants.{PASSES}
 use Rattle.mr_exchange.specs.Cubes.{IsProblemOf}

@@ -18,7 +18,7 @@ returns-in-Some c =
     c.in-Some.ensures
 
 pub loop-b1-preserved : goal.loop-b1-preserved
-loop-b1-preserved c = each_more c.unlisted-bases.result.now (NoneFrom c.args.table.now) c.loop-b1.b1-index c.b1-item.result c.loop-b1-test.true c.b1-item.is c.loop-b1.invariant c.in-None.ensures
+loop-b1-preserved c = each_more c.unlisted-bases.result.now (NoneFrom c.args.table.now) c.loop-b1.b1-index c.b1-item.result c.loop-b1-test.true c.b1-item.is c.loop-b1.invariant c.in_default.ensures
 
 pub returns : goal.returns
 returns c b1 b2 x fails =

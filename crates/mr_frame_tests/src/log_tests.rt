@@ -1,9 +1,7 @@
 ghost use Rattle.std.specs.Prelude.{◌<◌, length};
 
-use crate::fault::{LogFault, Why};
-use crate::read::read_log;
-use crate::write::write_log;
 use mr_field::Field;
+use mr_log::{LogFault, Why, read_log, write_log};
 use mr_text::Text;
 use std::alloc::Global;
 use std::test::Fail;
