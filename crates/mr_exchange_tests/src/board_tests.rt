@@ -6,7 +6,7 @@ ghost use Rattle.mr_exchange.specs.Board.{new_holding};
 ghost use Rattle.mr_exchange.specs.Plain.{plain_holding};
 ghost use Rattle.mr_exchange_tests.specs.Private.Boards.{KnowsNone, KnowsOne, LookedOn};
 
-use crate::exchange_tests::{fano, row};
+use crate::plane::{fano, row};
 use mr_assign::{Assign, AssignList};
 use mr_exchange::{
     AnswerList, Board, Closed, CubeAnswer, LOOKS, Look, PlainBoard, Problem, SlotList,
@@ -189,7 +189,7 @@ fn is_closed_on(alloc: Global, frame: &Frame) -> Option<bool> {
 
 // The same on the plane.
 fn is_closed_on_the_plane(alloc: Global) -> Option<bool> {
-    let fano = fano(alloc)?;
+    let fano = fano(alloc, 3)?;
     is_closed_on(alloc, &fano)
 }
 
@@ -216,7 +216,7 @@ fn is_untouched_on(alloc: Global, frame: &Frame) -> Option<bool> {
 
 // The same on the plane.
 fn is_untouched(alloc: Global) -> Option<bool> {
-    let fano = fano(alloc)?;
+    let fano = fano(alloc, 3)?;
     is_untouched_on(alloc, &fano)
 }
 

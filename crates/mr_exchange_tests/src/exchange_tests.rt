@@ -1,29 +1,10 @@
 ghost use Rattle.std.specs.Prelude.{◌≡◌, IfSome};
 
+use crate::plane::{fano, row};
 use mr_assign::Assign;
 use mr_exchange::{Event, Look, Problem, ReplayFault, Reply, State, StepFault, cube_at, replay};
-use mr_field::Field;
 use mr_frame::Frame;
-use mr_matroid::Matroid;
-use mr_nogood::{Cite, ROW_CITES, Row};
-use mr_set::{Set, sets_of};
 use std::alloc::Global;
-
-// The frame of the Fano plane over three elements, by the masks of its lines. Its free positions are those of row 1
-// and element 6, of row 2 and element 5, and of row 2 and element 6.
-pub(crate) fn fano(alloc: Global) -> Option<Frame> {
-    let lines = sets_of(alloc, 7, 3, &[11, 21, 97, 38, 82, 76, 56]).ok()??;
-    let plane = Matroid::from_nonbases(alloc, 7, 3, lines.as_slice()).ok()?;
-    Frame::new(alloc, plane, Field::of(3)?).ok()
-}
-
-// The cite of the set with this mask.
-fn test(mask: u64) -> Cite {
-    match Set::of_mask(mask) {
-        Some(x) => Cite::Test(x),
-        None => Cite::Nothing,
-    }
-}
 
 // The map that gives a value to position 0.
 fn first_is(value: u8) -> Assign {
@@ -31,19 +12,6 @@ fn first_is(value: u8) -> Assign {
         Assign::empty().with(0, 1)
     } else {
         Assign::empty().with(0, 2)
-    }
-}
-
-// With 1 at the positions 0 and 2 each value at 1 makes 345 or 056 fail.
-pub(crate) fn row() -> Row {
-    let mut cites = [Cite::Nothing; ROW_CITES];
-    cites[0] = test(0b0111000);
-    cites[1] = test(0b1100001);
-    Row {
-        rank: 0,
-        at: 1,
-        clause: first_is(1).with(2, 1),
-        cites,
     }
 }
 
@@ -144,7 +112,7 @@ fn is_played_on(alloc: Global, frame: &Frame, more: &[Event], wanted: &[Answer])
 
 // The same on the plane.
 fn is_played(alloc: Global, more: &[Event], wanted: &[Answer]) -> Option<bool> {
-    let fano = fano(alloc)?;
+    let fano = fano(alloc, 3)?;
     is_played_on(alloc, &fano, more, wanted)
 }
 
@@ -191,7 +159,7 @@ fn replayed(alloc: Global, frame: &Frame, events: &[Event]) -> Result<bool, Repl
 
 // The same of the first events on the Fano plane.
 fn replayed_first(alloc: Global, count: usize) -> Option<Result<bool, ReplayFault>> {
-    let fano = fano(alloc)?;
+    let fano = fano(alloc, 3)?;
     let events = events();
     if count > 9 {
         return None;
@@ -208,7 +176,7 @@ fn the_first_refused_event_is_named_by_its_place(rt: HostRuntime) {
 
 // Whether the cubes of one split position are two, and give it their values.
 fn are_values(alloc: Global) -> Option<bool> {
-    let fano = fano(alloc)?;
+    let fano = fano(alloc, 3)?;
     let problem = Problem::of(&fano, 1, 10);
     if problem.cubes != 2 {
         return Some(false);
@@ -238,7 +206,7 @@ fn is_empty_on(alloc: Global, frame: &Frame) -> Option<bool> {
 
 // The same on the plane.
 fn is_empty_on_the_plane(alloc: Global) -> Option<bool> {
-    let fano = fano(alloc)?;
+    let fano = fano(alloc, 3)?;
     is_empty_on(alloc, &fano)
 }
 

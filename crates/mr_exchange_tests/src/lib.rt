@@ -8,6 +8,8 @@ mod exchange_tests;
 #[cfg(test)]
 mod looking_tests;
 #[cfg(test)]
+mod plane;
+#[cfg(test)]
 mod racing_tests;
 #[cfg(test)]
 mod store_tests;

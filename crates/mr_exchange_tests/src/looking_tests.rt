@@ -5,11 +5,11 @@ ghost use Rattle.mr_exchange.specs.declared.TheConstants.{LOOKS};
 ghost use Rattle.mr_store.specs.Cards.{mark_of};
 ghost use Rattle.mr_exchange_tests.specs.Private.Stores.{HasClaimed, HasOpened, IsFirst, IsFresh, IsGathered, IsLooking, IsNew};
 
-use crate::store_tests::{claims, closed, draws, fano, opens, pair, publishes, shows, test};
+use crate::plane::{fano, row};
+use crate::store_tests::{claims, closed, draws, opens, pair, publishes, shows};
 use mr_assign::Assign;
 use mr_exchange::{Board, Look, Problem};
 use mr_frame::Frame;
-use mr_nogood::{Cite, Row};
 use mr_store::{Card, Store};
 use std::alloc::Global;
 
@@ -18,19 +18,6 @@ fn single(value: u8) -> Assign
     requires { (1 ≤ value) × (value ≤ 3) }
 {
     Assign::empty().with(0, value)
-}
-
-// With 1 at the positions 0 and 2 each value at 1 makes 345 or 056 fail.
-fn row() -> Row {
-    let mut cites = [Cite::Nothing; 8];
-    cites[0] = test(0b0111000);
-    cites[1] = test(0b1100001);
-    Row {
-        rank: 0,
-        at: 1,
-        clause: single(1).with(2, 1),
-        cites,
-    }
 }
 
 // Whether a pass that claimed the cube opens it, which is this node, with this ticket, and the next node, which is an

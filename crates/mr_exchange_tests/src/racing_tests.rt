@@ -4,7 +4,8 @@ ghost use Rattle.mr_exchange.specs.declared.TheConstants.{PASSES};
 ghost use Rattle.mr_store.specs.Cards.{store_of, mark_of};
 ghost use Rattle.mr_exchange_tests.specs.Private.Stores.{HasClaimed, IsFirst, IsFresh, IsGathered, IsNew, IsRacer, IsReady};
 
-use crate::store_tests::{closed, draws, fano, publishes, test};
+use crate::plane::{fano, test};
+use crate::store_tests::{closed, draws, publishes};
 use mr_assign::Assign;
 use mr_exchange::{Board, Closed, Look, Problem};
 use mr_frame::Frame;

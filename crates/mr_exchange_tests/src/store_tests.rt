@@ -4,23 +4,16 @@ ghost use Rattle.mr_exchange.specs.Board.{GainsTicket};
 ghost use Rattle.mr_store.specs.Cards.{mark_of};
 ghost use Rattle.mr_exchange_tests.specs.Private.Stores.{HasClaimed, HasOpened, IsFirst, IsFresh, IsGathered, IsNew};
 
+use crate::plane::{fano, test};
 use mr_assign::Assign;
 use mr_exchange::{Board, Closed, Look, Problem, cube_at};
 use mr_field::Field;
 use mr_frame::Frame;
 use mr_matroid::Matroid;
 use mr_nogood::{Cite, Row, follows};
-use mr_set::{Set, sets_of};
+use mr_set::sets_of;
 use mr_store::{Card, Store};
 use std::alloc::Global;
-
-// The frame of the Fano plane over a field of so many elements, by the masks of its lines. Its free positions are
-// those of row 1 and element 6, of row 2 and element 5, and of row 2 and element 6.
-pub(crate) fn fano(alloc: Global, order: u32) -> Option<Frame> {
-    let lines = sets_of(alloc, 7, 3, &[11, 21, 97, 38, 82, 76, 56]).ok()??;
-    let plane = Matroid::from_nonbases(alloc, 7, 3, lines.as_slice()).ok()?;
-    Frame::new(alloc, plane, Field::of(order)?).ok()
-}
 
 // The frame of thirteen points of a line over three elements. Its free positions are those of row 1 and the
 // elements from 3 on.
@@ -28,14 +21,6 @@ fn line(alloc: Global) -> Option<Frame> {
     let none = sets_of(alloc, 13, 2, &[]).ok()??;
     let line = Matroid::from_nonbases(alloc, 13, 2, none.as_slice()).ok()?;
     Frame::new(alloc, line, Field::of(3)?).ok()
-}
-
-// The cite of the set with this mask.
-pub(crate) fn test(mask: u64) -> Cite {
-    match Set::of_mask(mask) {
-        Some(x) => Cite::Test(x),
-        None => Cite::Nothing,
-    }
 }
 
 // With 2 at position 0 the points of the elements 2 and 3 are the two that are possible, and each value at

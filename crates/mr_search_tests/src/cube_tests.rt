@@ -1,31 +1,14 @@
 ghost use Rattle.std.specs.Prelude.{◌≤◌};
 ghost use Rattle.mr_exchange.specs.declared.TheConstants.{NODES};
 
+use crate::frames::{fano, uniform};
 use mr_assign::Assign;
 use mr_exchange::{Board, CubeAnswer, PlainBoard, Problem};
-use mr_field::Field;
 use mr_frame::Frame;
-use mr_matroid::Matroid;
 use mr_nogood::Cite;
 use mr_propagate::Index;
 use mr_search::{SearchStop, search_cube};
-use mr_set::sets_of;
 use std::alloc::{AllocError, Global};
-
-// The frame of the Fano plane over three elements, by the masks of its lines. Its free positions are those of row 1
-// and element 6, of row 2 and element 5, and of row 2 and element 6.
-fn fano(alloc: Global) -> Option<Frame> {
-    let lines = sets_of(alloc, 7, 3, &[11, 21, 97, 38, 82, 76, 56]).ok()??;
-    let plane = Matroid::from_nonbases(alloc, 7, 3, lines.as_slice()).ok()?;
-    Frame::new(alloc, plane, Field::of(3)?).ok()
-}
-
-// The frame of the uniform matroid of rank 2 on four elements. Over more than two elements one position is free.
-fn four_points(alloc: Global, q: u32) -> Option<Frame> {
-    let none = sets_of(alloc, 4, 2, &[]).ok()??;
-    let points = Matroid::from_nonbases(alloc, 4, 2, none.as_slice()).ok()?;
-    Frame::new(alloc, points, Field::of(q)?).ok()
-}
 
 // How a search ends: with the completions that give 2 and 3 to position 0, with other ones, with a set, told by its
 // mask, with a row, without a ticket or memory, or before it, without a cube.
@@ -101,12 +84,12 @@ fn searched(alloc: Global, frame: &Frame, nodes: u32) -> Result<End, AllocError>
     }
 }
 
-// How that of four points ends.
+// How that of four points on a line ends. Over more than two elements one position is free.
 fn four_points_searched(alloc: Global, q: u32, nodes: u32) -> Option<End>
     requires some { 1 ≤ nodes }
     requires few { nodes ≤ NODES }
 {
-    let frame = four_points(alloc, q)?;
+    let frame = uniform(alloc, 4, 2, q)?;
     searched(alloc, &frame, nodes).ok()
 }
 

@@ -4,25 +4,15 @@ ghost use Rattle.mr_assign.specs.declared.TheConstants.{POSITIONS, VALUES};
 ghost use Rattle.mr_frame.specs.Test.{IsAssignmentOf};
 ghost use Rattle.mr_propagate.specs.Index.{IsFilledBelow};
 
+use crate::frames::{fano, test};
 use mr_assign::{Assign, POSITIONS, VALUES};
-use mr_field::Field;
 use mr_frame::Frame;
-use mr_matroid::Matroid;
 use mr_nogood::{Cite, ROW_CITES, Row};
 use mr_propagate::Index;
-use mr_set::{Set, sets_of};
 use std::alloc::Global;
 
 // The values at the positions 0, 1 and 2, where 0 is none.
 type Values = [u8; 3];
-
-// The frame of the Fano plane over three elements, by the masks of its lines. Its free positions are those of row 1
-// and element 6, of row 2 and element 5, and of row 2 and element 6.
-fn fano(alloc: Global) -> Option<Frame> {
-    let lines = sets_of(alloc, 7, 3, &[11, 21, 97, 38, 82, 76, 56]).ok()??;
-    let plane = Matroid::from_nonbases(alloc, 7, 3, lines.as_slice()).ok()?;
-    Frame::new(alloc, plane, Field::of(3)?).ok()
-}
 
 // The map that gives these values.
 fn node(values: Values) -> Assign {
@@ -45,14 +35,6 @@ fn row(at: u8, clause: Values, one: Cite, two: Cite) -> Row {
         at,
         clause: node(clause),
         cites,
-    }
-}
-
-// The cite of the set with this mask.
-fn test(mask: u64) -> Cite {
-    match Set::of_mask(mask) {
-        Some(x) => Cite::Test(x),
-        None => Cite::Nothing,
     }
 }
 

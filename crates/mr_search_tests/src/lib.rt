@@ -4,6 +4,8 @@
 #[cfg(test)]
 mod cube_tests;
 #[cfg(test)]
+mod frames;
+#[cfg(test)]
 mod index_tests;
 #[cfg(test)]
 mod merge_tests;

@@ -12,35 +12,17 @@ ghost use Rattle.mr_log.specs.Log.{IsLog};
 ghost use Rattle.mr_merge.specs.Merged.{MatchMerged};
 ghost use Rattle.mr_search_tests.specs.Private.Answered.{HasCube, HasTicket, StaysOn};
 
+use crate::frames::{fano, test, uniform};
 use mr_assign::{Assign, AssignList};
 use mr_check::{Accepted, check};
 use mr_exchange::{AnswerList, Board, Closed, CubeAnswer, PlainBoard, Problem, cube_at};
 use mr_field::Field;
 use mr_frame::Frame;
 use mr_log::write_log;
-use mr_matroid::Matroid;
 use mr_merge::{Merged, merge};
 use mr_nogood::{Cite, ROW_CITES, Row, fails, follows};
-use mr_set::{ELEMENTS, Set, binomial, sets_of};
 use mr_text::Text;
 use std::alloc::{AllocError, Global};
-
-// The frame of the matroid of `n` elements in which each set of `r` is a basis, over the field with so many elements.
-fn uniform(alloc: Global, n: u32, r: u32, order: u32) -> Option<Frame> {
-    if n > ELEMENTS || r > n || binomial(n, r).is_none() {
-        return None;
-    }
-    let none = sets_of(alloc, n, r, &[]).ok()??;
-    let m = Matroid::from_nonbases(alloc, n, r, none.as_slice()).ok()?;
-    Frame::new(alloc, m, Field::of(order)?).ok()
-}
-
-// The frame of the Fano plane over three elements, by the masks of its lines.
-fn fano(alloc: Global) -> Option<Frame> {
-    let lines = sets_of(alloc, 7, 3, &[11, 21, 97, 38, 82, 76, 56]).ok()??;
-    let plane = Matroid::from_nonbases(alloc, 7, 3, lines.as_slice()).ok()?;
-    Frame::new(alloc, plane, Field::of(3)?).ok()
-}
 
 // The answer for an assignment of all positions: itself where no set fails under it, else the first that does.
 fn answer_of(alloc: Global, frame: &Frame, cube: &Assign) -> Result<CubeAnswer, AllocError>
@@ -285,14 +267,6 @@ fn answers_by(
         }
     }
     Some(answers)
-}
-
-// The set with this mask.
-fn test(mask: u64) -> Cite {
-    match Set::of_mask(mask) {
-        Some(x) => Cite::Test(x),
-        None => Cite::Nothing,
-    }
 }
 
 // With 2 at position 0 each value at 1 makes 2 4 or 3 4 fail.
